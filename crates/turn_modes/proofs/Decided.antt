@@ -23,28 +23,41 @@ use Rattle.turn_modes.specs.OneTurn.{IsFirstTurn, first_rows, first_setting}
 
 -- ---- a tree that was searched as prepared
 
-pub shape_of_tree : (knobs : Knobs) (now : Position) (mover : Colour) (s : Setting) (c : ClosedTree) → c.shape ≡ s → IsTurnShape knobs now mover 0 s.allowed s → IsTurnShape knobs now mover 0 c.shape.allowed c.shape
-shape_of_tree knobs now mover s c e h = subst (λ (z : Setting). IsTurnShape knobs now mover 0 z.allowed z) (sym e) h
+pub shape_of_tree : (knobs : Knobs) (now : Position) (mover : Colour) (s : Setting) (c : ClosedTree)
+    → c.shape ≡ s → IsTurnShape knobs now mover 0 s.allowed s
+    → IsTurnShape knobs now mover 0 c.shape.allowed c.shape
+shape_of_tree knobs now mover s c e h
+    = subst (λ (z : Setting). IsTurnShape knobs now mover 0 z.allowed z) (sym e) h
 
-pub sequential_tree : (knobs : Knobs) (now : Position) (mover : Colour) (s : Setting) (c : ClosedTree) → c.shape ≡ s → IsTurnShape knobs now mover 0 s.allowed s
+pub sequential_tree : (knobs : Knobs) (now : Position) (mover : Colour) (s : Setting)
+    (c : ClosedTree) → c.shape ≡ s → IsTurnShape knobs now mover 0 s.allowed s
     → (s.knobs.workers ≡ 1 → IsTreeOf s c.words (seq_of s).0) → IsSequential knobs c
-sequential_tree knobs now mover s c e h one w = subst (λ (z : Setting). IsTreeOf z c.words (seq_of z).0) (sym e) (one (ap (λ (k : Knobs). k.workers) h.knobs ∙ w))
+sequential_tree knobs now mover s c e h one w
+    = subst (λ (z : Setting). IsTreeOf z c.words (seq_of z).0) (sym e)
+    (one (ap (λ (k : Knobs). k.workers) h.knobs ∙ w))
 
 -- ---- the tree of a first turn
 
 -- it was searched for the turn
-pub searched_tree : (knobs : Knobs) (now : Position) (mover : Colour) (t : TurnData) (f : IsFirstTurn knobs now mover t)
+pub searched_tree : (knobs : Knobs) (now : Position) (mover : Colour) (t : TurnData)
+    (f : IsFirstTurn knobs now mover t)
     → (c : ClosedTree) × (t.closed ≡ Some c) × IsSearchedFor knobs t f.good.planned.allowed c
-searched_tree knobs now mover t f = subst (λ (v : Plan). FollowsPlan knobs t v) f.good.planned.plan f.good.follows
+searched_tree knobs now mover t f
+    = subst (λ (v : Plan). FollowsPlan knobs t v) f.good.planned.plan f.good.follows
 
-pub has_tree : (knobs : Knobs) (now : Position) (mover : Colour) (t : TurnData) → IsFirstTurn knobs now mover t → IsSome t.closed
+pub has_tree : (knobs : Knobs) (now : Position) (mover : Colour) (t : TurnData)
+    → IsFirstTurn knobs now mover t → IsSome t.closed
 has_tree knobs now mover t f = subst IsSome (sym (searched_tree knobs now mover t f).1) refl
 
 -- what it was searched for
-pub tree_setting : (knobs : Knobs) (now : Position) (mover : Colour) (t : TurnData) (f : IsFirstTurn knobs now mover t) (c : ClosedTree) → IsSearchedFor knobs t f.good.planned.allowed c → c.shape ≡ first_setting knobs now mover
+pub tree_setting : (knobs : Knobs) (now : Position) (mover : Colour) (t : TurnData)
+    (f : IsFirstTurn knobs now mover t) (c : ClosedTree)
+    → IsSearchedFor knobs t f.good.planned.allowed c → c.shape ≡ first_setting knobs now mover
 tree_setting knobs now mover t f c s =
-    let cells : f.good.planned.allowed ≡ set_of (empties_of now) = same_set f.good.planned.allowed (set_of (empties_of now))
-    (λ k. f.good.planned.empties.items k ∙ ap (λ (p : Position). is_empty_at p k) f.board ∙ sym (set_empties now k)) in
+    let cells : f.good.planned.allowed ≡ set_of (empties_of now)
+    = same_set f.good.planned.allowed (set_of (empties_of now))
+    (λ k. f.good.planned.empties.items k ∙ ap (λ (p : Position). is_empty_at p k) f.board
+    ∙ sym (set_empties now k)) in
     λ i. record {
       board = (s.shape.board ∙ f.board) i;
       player = (s.shape.player ∙ f.player) i;
@@ -53,7 +66,9 @@ tree_setting knobs now mover t f c s =
     }
 
 -- with one worker its rows are those of the sequential search
-pub sequential_rows_of : (knobs : Knobs) (now : Position) (mover : Colour) (t : TurnData) (f : IsFirstTurn knobs now mover t) (c : ClosedTree) → IsSearchedFor knobs t f.good.planned.allowed c → knobs.workers ≡ 1
+pub sequential_rows_of : (knobs : Knobs) (now : Position) (mover : Colour) (t : TurnData)
+    (f : IsFirstTurn knobs now mover t) (c : ClosedTree)
+    → IsSearchedFor knobs t f.good.planned.allowed c → knobs.workers ≡ 1
     → rows_of c.shape c.words ≡ first_rows knobs now mover
 sequential_rows_of knobs now mover t f c s one =
     rows_of_tree c.shape c.words (seq_of c.shape).0 s.setting s.closed (s.sequential one)

@@ -1,5 +1,6 @@
 -- A turn that was handed over with its text.
-use Rattle.std.proofs.Common.{◌≡◌, ℕ, List, Option, Some, None, Ok, Err, Result, refl, sym, subst, arith}
+use Rattle.std.proofs.Common.{◌≡◌, ℕ, List, Option, Some, None, Ok, Err, Result, refl, sym, subst}
+use Rattle.std.proofs.Common.{arith}
 use Rattle.std.specs.Prelude.{IsErrAnd}
 use Rattle.hex_io.specs.Causes.{CountsFault}
 use Rattle.hex_io.specs.Told.{Told}
@@ -7,10 +8,13 @@ use Rattle.hex_plan.specs.Turns.{TurnData}
 use Rattle.hex_devices.specs.Devices.{CountsStop, DevicesState, LinkAndArchive, Outcome, stop_of}
 use Rattle.hex_devices.specs.Handing.{HandsOver}
 use Rattle.hex_devices.specs.declared.stops.Stop.{Stop}
-use Rattle.hex_devices.specs.declared.stops.Stop.TheVariants.{ReadFault, WriteFault, Memory, TooLong, ArchiveFault}
+use Rattle.hex_devices.specs.declared.stops.Stop.TheVariants.{ReadFault, WriteFault, Memory}
+use Rattle.hex_devices.specs.declared.stops.Stop.TheVariants.{TooLong, ArchiveFault}
 use Rattle.turn_modes.specs.HandingIn.{HandsIn}
 
-pub handed : (Says : TurnData → List ℕ → Type 0) (old new : LinkAndArchive) (turn : TurnData) (text : List ℕ) (result : Result (Unit {0}) Stop) → Says turn text → HandsOver old new turn text result → HandsIn Says old new result
+pub handed : (Says : TurnData → List ℕ → Type 0) (old new : LinkAndArchive) (turn : TurnData)
+    (text : List ℕ) (result : Result (Unit {0}) Stop) → Says turn text
+    → HandsOver old new turn text result → HandsIn Says old new result
 handed Says old new turn text (Ok done) a h = (turn, text, a, h.0, h.1)
 handed Says old new turn text (Err ReadFault) a h = h
 handed Says old new turn text (Err WriteFault) a h = (turn, text, a, h.0, h.1)
@@ -18,13 +22,20 @@ handed Says old new turn text (Err Memory) a h = absurd h
 handed Says old new turn text (Err TooLong) a h = h
 handed Says old new turn text (Err ArchiveFault) a h = h
 
--- the same, where the link and the archive tell what devices tell
-pub handed_as : (Says : TurnData → List ℕ → Type 0) (x y link link_now : Option Told) (a b turns turns_now : Option (List TurnData)) (turn : TurnData) (text : List ℕ) (result : Result (Unit {0}) Stop)
-    → x ≡ link → a ≡ turns → y ≡ link_now → b ≡ turns_now → Says turn text → HandsOver (x, a) (y, b) turn text result → HandsIn Says (link, turns) (link_now, turns_now) result
-handed_as Says x y link link_now a b turns turns_now turn text result p q r s says h = rw (← p, ← q, ← r, ← s) (handed Says (x, a) (y, b) turn text result says h)
+-- the same, if the link and the archive tell what devices tell
+pub handed_as : (Says : TurnData → List ℕ → Type 0) (x y link link_now : Option Told)
+    (a b turns turns_now : Option (List TurnData)) (turn : TurnData) (text : List ℕ)
+    (result : Result (Unit {0}) Stop)
+    → x ≡ link → a ≡ turns → y ≡ link_now → b ≡ turns_now → Says turn text
+    → HandsOver (x, a) (y, b) turn text result
+    → HandsIn Says (link, turns) (link_now, turns_now) result
+handed_as Says x y link link_now a b turns turns_now turn text result p q r s says h
+    = rw (← p, ← q, ← r, ← s) (handed Says (x, a) (y, b) turn text result says h)
 
 -- what holds of the turn and its text holds less
-pub hands_less : (Says Less : TurnData → List ℕ → Type 0) (old new : LinkAndArchive) (outcome : Outcome) → ((turn : TurnData) (text : List ℕ) → Says turn text → Less turn text) → HandsIn Says old new outcome → HandsIn Less old new outcome
+pub hands_less : (Says Less : TurnData → List ℕ → Type 0) (old new : LinkAndArchive)
+    (outcome : Outcome) → ((turn : TurnData) (text : List ℕ) → Says turn text → Less turn text)
+    → HandsIn Says old new outcome → HandsIn Less old new outcome
 hands_less Says Less old new (Ok done) less h = (h.0, h.1, less h.0 h.1 h.2, h.3, h.4)
 hands_less Says Less old new (Err ReadFault) less h = absurd h
 hands_less Says Less old new (Err WriteFault) less h = (h.0, h.1, less h.0 h.1 h.2, h.3, h.4)
@@ -32,10 +43,13 @@ hands_less Says Less old new (Err Memory) less h = h
 hands_less Says Less old new (Err TooLong) less h = absurd h
 hands_less Says Less old new (Err ArchiveFault) less h = h
 
-count_same : (n : ℕ) (t : Stop) (stop : Option Stop) → (stop ≡ Some t → ⊥) → CountsFault n n (stop ≡ Some t)
-count_same n t stop none = record { later = omega arith; rose = λ e. absurd (none e); kept = λ e. refl }
+count_same : (n : ℕ) (t : Stop) (stop : Option Stop) → (stop ≡ Some t → ⊥)
+    → CountsFault n n (stop ≡ Some t)
+count_same n t stop none
+    = record { later = omega arith; rose = λ e. absurd (none e); kept = λ e. refl }
 
-counts_same : (d : DevicesState) (stop : Option Stop) → (stop ≡ Some ReadFault → ⊥) → (stop ≡ Some WriteFault → ⊥) → (stop ≡ Some ArchiveFault → ⊥) → CountsStop d d stop
+counts_same : (d : DevicesState) (stop : Option Stop) → (stop ≡ Some ReadFault → ⊥)
+    → (stop ≡ Some WriteFault → ⊥) → (stop ≡ Some ArchiveFault → ⊥) → CountsStop d d stop
 counts_same d stop read write archive = record {
   reads = count_same d.read_faults ReadFault stop read;
   writes = count_same d.write_faults WriteFault stop write;
@@ -43,7 +57,8 @@ counts_same d stop read write archive = record {
   names = refl;
 }
 
--- where memory was wanted no fault is counted
-pub memory_counts : (d : DevicesState) (result : Result (Unit {0}) Stop) → IsErrAnd result (λ stop. stop ≡ Memory) → CountsStop d d (stop_of result)
+-- if memory ran out no fault is counted
+pub memory_counts : (d : DevicesState) (result : Result (Unit {0}) Stop)
+    → IsErrAnd result (λ stop. stop ≡ Memory) → CountsStop d d (stop_of result)
 memory_counts d (Ok done) e = counts_same d None (λ q. cc) (λ q. cc) (λ q. cc)
 memory_counts d (Err stop) e = counts_same d (Some stop) (λ q. cc) (λ q. cc) (λ q. cc)

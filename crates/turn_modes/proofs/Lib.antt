@@ -1,5 +1,4 @@
--- How to read the proof of `turn_modes::simulation`, `benchmark`: the one turn of `sim` and
--- `bench`.
+-- How to read the proof of `turn_modes::hand_in`: the one turn of `sim` and `bench`.
 -- 1. What is claimed: src/modes.rt; specs/Positions.antt, Schedules.antt, Rows.antt, Records.antt,
 --    ModeTexts.antt (the texts), OneTurn.antt (the turns and texts), HandingIn.antt (what is done
 --    with them).

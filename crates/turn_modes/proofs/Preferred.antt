@@ -1,5 +1,6 @@
 -- The best cell of a tree is that of its rows.
-use Rattle.std.proofs.Common.{◌≡◌, ℕ, zero, suc, ◌<◌, ◌≤◌, Bool, true, false, cond, List, [], ◌∷◌, length, get_or, refl, ap, ◌∙◌, subst, arith}
+use Rattle.std.proofs.Common.{◌≡◌, ℕ, zero, suc, ◌<◌, ◌≤◌, Bool, true, false, cond, List, [], ◌∷◌}
+use Rattle.std.proofs.Common.{length, get_or, refl, ap, ◌∙◌, subst, arith}
 use Rattle.std.specs.Prelude.{◌==◌, ◌&&◌, ◌||◌, nat_lt}
 use Rattle.std.proofs.lemmas.Bool.Decides.{nat_tests}
 use Rattle.std.proofs.lemmas.List.FromFn.{length-map-range_with_len, get_or-map-range_with_len}
@@ -29,15 +30,31 @@ top_on r m x a b =
     }
 
 -- the preferred one of two
-better : (best row : Row) (t : Bool) → t ≡ is_preferred row best → IsTop (cond t row best) best × IsTop (cond t row best) row
-better best row true e = (record { most = more best.visits row.visits best.cell row.cell e; least = lower best.visits row.visits best.cell row.cell e }, top_itself row)
+better : (best row : Row) (t : Bool) → t ≡ is_preferred row best → IsTop (cond t row best) best
+    × IsTop (cond t row best) row
+better best row true e
+    = (
+      record {
+        most = more best.visits row.visits best.cell row.cell e;
+        least = lower best.visits
+            row.visits best.cell row.cell e;
+      },
+      top_itself row,
+    )
   where
     more : (a b c d : ℕ) → true ≡ (nat_lt a b || ((b == a) && nat_lt d c)) → a ≤ b
     more a b c d e = grind (arith, nat_tests)
 
     lower : (a b c d : ℕ) → true ≡ (nat_lt a b || ((b == a) && nat_lt d c)) → a ≡ b → d ≤ c
     lower a b c d e f = grind (arith, nat_tests)
-better best row false e = (top_itself best, record { most = fewer best.visits row.visits best.cell row.cell e; least = higher best.visits row.visits best.cell row.cell e })
+better best row false e
+    = (
+      top_itself best,
+      record {
+        most = fewer best.visits row.visits best.cell row.cell e;
+        least = higher best.visits row.visits best.cell row.cell e;
+      },
+    )
   where
     fewer : (a b c d : ℕ) → false ≡ (nat_lt a b || ((b == a) && nat_lt d c)) → b ≤ a
     fewer a b c d e = grind (arith, nat_tests)
@@ -50,14 +67,18 @@ top_of : (best : Row) (rows : List Row) → IsTop (preferred_of best rows) best
 top_of best [] = top_itself best
 top_of best (row ∷ rows) =
     let m : Row = cond (is_preferred row best) row best in
-    top_on (preferred_of m rows) m best (top_of m rows) (better best row (is_preferred row best) refl).0
+    top_on (preferred_of m rows) m best (top_of m rows)
+    (better best row (is_preferred row best) refl).0
 
-top_at : (best : Row) (rows : List Row) (i : ℕ) (d : Row) → i < length rows → IsTop (preferred_of best rows) (get_or rows i d)
+top_at : (best : Row) (rows : List Row) (i : ℕ) (d : Row) → i < length rows
+    → IsTop (preferred_of best rows) (get_or rows i d)
 top_at best [] i d l = absurd (omega arith)
 top_at best (row ∷ rows) zero d l =
     let m : Row = cond (is_preferred row best) row best in
-    top_on (preferred_of m rows) m row (top_of m rows) (better best row (is_preferred row best) refl).1
-top_at best (row ∷ rows) (suc i) d l = top_at (cond (is_preferred row best) row best) rows i d (omega arith)
+    top_on (preferred_of m rows) m row (top_of m rows)
+    (better best row (is_preferred row best) refl).1
+top_at best (row ∷ rows) (suc i) d l = top_at (cond (is_preferred row best) row best) rows i d
+    (omega arith)
 
 -- it is one of them
 Stands : Row → List Row → Row → Type 0
@@ -70,14 +91,20 @@ stands best (row ∷ rows) = let m : Row = cond (is_preferred row best) row best
     let s = stands m rows in
     moved (is_preferred row best) (preferred_of m rows) s.0 s.1 s.2
   where
-    moved : (t : Bool) (r : Row) (i : ℕ) → i < suc (length rows) → r ≡ get_or (cond t row best ∷ rows) i r → (j : ℕ) × (j < suc (suc (length rows))) × (r ≡ get_or (best ∷ row ∷ rows) j r)
+    moved : (t : Bool) (r : Row) (i : ℕ) → i < suc (length rows)
+        → r ≡ get_or (cond t row best ∷ rows) i r → (j : ℕ) × (j < suc (suc (length rows)))
+        × (r ≡ get_or (best ∷ row ∷ rows) j r)
     moved true r zero l e = (1, omega arith, e)
     moved false r zero l e = (0, omega arith, e)
     moved t r (suc i) l e = (suc (suc i), omega arith, e)
 
 -- what has most visits, and among those with as many the lowest cell, has the best cell
-best_is : (rows : List Row) (cell place : ℕ) (row : ℕ → Row) → ((i : ℕ) (d : Row) → i < length rows → get_or rows i d ≡ row i) → place < length rows → cell ≡ (row place).cell
-    → ((i : ℕ) → i < length rows → (row i).visits ≤ (row place).visits) → ((i : ℕ) → i < length rows → (row i).visits ≡ (row place).visits → cell ≤ (row i).cell) → cell ≡ best_cell rows
+best_is : (rows : List Row) (cell place : ℕ) (row : ℕ → Row)
+    → ((i : ℕ) (d : Row) → i < length rows → get_or rows i d ≡ row i) → place < length rows
+    → cell ≡ (row place).cell
+    → ((i : ℕ) → i < length rows → (row i).visits ≤ (row place).visits)
+    → ((i : ℕ) → i < length rows → (row i).visits ≡ (row place).visits → cell ≤ (row i).cell)
+    → cell ≡ best_cell rows
 unfolding best_cell Stands
 best_is [] cell place row at l e most least = absurd (omega arith)
 best_is (first ∷ rows) cell place row at l e most least =
@@ -94,14 +121,19 @@ best_is (first ∷ rows) cell place row at l e most least =
     omega arith
   where
     over : (i : ℕ) → i < suc (length rows) → IsTop (preferred_of first rows) (row i)
-    over zero l = subst (IsTop (preferred_of first rows)) (at 0 first (omega arith)) (top_of first rows)
-    over (suc i) l = subst (IsTop (preferred_of first rows)) (at (suc i) first l) (top_at first rows i first (omega arith))
+    over zero l = subst (IsTop (preferred_of first rows)) (at 0 first (omega arith))
+        (top_of first rows)
+    over (suc i) l = subst (IsTop (preferred_of first rows)) (at (suc i) first l)
+        (top_at first rows i first (omega arith))
 
 -- the best cell of the root's children
-pub best_in : (s : Setting) (words : List ℕ) (cell : ℕ) → IsBest s words cell → cell ≡ best_cell (rows_of s words)
+pub best_in : (s : Setting) (words : List ℕ) (cell : ℕ) → IsBest s words cell
+    → cell ≡ best_cell (rows_of s words)
 best_in s words cell b =
     let n : ℕ = root_count s words in
     let row : ℕ → Row = row_at s words in
     let many = length-map-range_with_len row 0 n in
-    best_is (rows_of s words) cell b.place row (λ i d l. get_or-map-range_with_len row 0 n i i d (omega arith) (omega arith)) (omega (arith, b.within)) b.is
+    best_is (rows_of s words) cell b.place row
+    (λ i d l. get_or-map-range_with_len row 0 n i i d (omega arith) (omega arith))
+    (omega (arith, b.within)) b.is
     (λ i l. b.most i (omega arith)) (λ i l. b.least i (omega arith))

@@ -14,7 +14,8 @@ use Rattle.tree_words.specs.declared.settings.Knobs.{Knobs}
 use Rattle.hex_plan.specs.TurnTexts.{report_by, report_of, report_on}
 use Rattle.hex_plan.specs.Turns.{TurnData}
 use Rattle.turn_modes.specs.ModeTexts.{bench_lines, bench_text, best_line, sim_text}
-use Rattle.turn_modes.specs.OneTurn.{IsBenchmark, IsFirstTurn, IsSimulation, bench_board, bench_player, bench_stones, first_rows}
+use Rattle.turn_modes.specs.OneTurn.{IsBenchmark, IsFirstTurn, IsSimulation, bench_board}
+use Rattle.turn_modes.specs.OneTurn.{bench_player, bench_stones, first_rows}
 use Rattle.turn_modes.specs.Positions.{IsBenchPosition, board_on, mover_after, shuffled_cells}
 use Rattle.turn_modes.specs.Records.{records_in}
 use Rattle.turn_modes.specs.Rows.{best_cell, visits_of}
@@ -27,56 +28,75 @@ use Rattle.turn_modes.proofs.Recorded.{all_recorded}
 
 -- ---- mode sim
 
-pub simulation_says : (o : ModeOptions) (t : TurnData) (text items : List ℕ) → IsFirstTurn o.knobs (empty_board o.size) Black t → text ≡ items → TellsSim t items → IsSimulation o t text
+pub simulation_says : (o : ModeOptions) (t : TurnData) (text items : List ℕ)
+    → IsFirstTurn o.knobs (empty_board o.size) Black t → text ≡ items → TellsSim t items
+    → IsSimulation o t text
 unfolding report_of
 simulation_says o t text items f same says =
     let start : Position = empty_board o.size in
     let tree = searched_tree o.knobs start Black t f in
     let c : ClosedTree = tree.0 in
     let size : t.board.size ≡ o.size = ap (λ (p : Position). p.size) f.board in
-    let reported : report_of t ≡ Some (report_on t.board.size c) = ap (option_map (report_on t.board.size)) tree.1 in
+    let reported : report_of t ≡ Some (report_on t.board.size c)
+    = ap (option_map (report_on t.board.size)) tree.1 in
     let said : text ≡ sim_text o.size t.cell (report_on t.board.size c)
-    = same ∙ says (report_on t.board.size c) reported ∙ ap (λ n. sim_text n t.cell (report_on t.board.size c)) size in
+    = same ∙ says (report_on t.board.size c) reported
+    ∙ ap (λ n. sim_text n t.cell (report_on t.board.size c)) size in
     let setting = tree_setting o.knobs start Black t f c tree.2 in
-    let playouts : c.shape.knobs.playouts ≡ o.knobs.playouts = ap (λ (z : Setting). z.knobs.playouts) setting in
+    let playouts : c.shape.knobs.playouts ≡ o.knobs.playouts
+    = ap (λ (z : Setting). z.knobs.playouts) setting in
     record {
       turn = f;
       says = (report_on t.board.size c, reported, said);
       one = λ w.
           said
           ∙ ap (λ n. sim_text o.size t.cell (report_on n c)) size
-          ∙ ap (λ cell. sim_text o.size cell (report_on o.size c)) (best_in c.shape c.words t.cell tree.2.best)
-          ∙ ap (λ n. sim_text o.size (best_cell (rows_of c.shape c.words)) (report_by o.size n (rows_of c.shape c.words))) playouts
-          ∙ ap (λ (rs : List Row). sim_text o.size (best_cell rs) (report_by o.size o.knobs.playouts rs)) (sequential_rows_of o.knobs start Black t f c tree.2 w);
+          ∙ ap (λ cell. sim_text o.size cell (report_on o.size c))
+          (best_in c.shape c.words t.cell tree.2.best)
+          ∙ ap (λ n. sim_text o.size (best_cell (rows_of c.shape c.words))
+          (report_by o.size n (rows_of c.shape c.words))) playouts
+          ∙ ap (λ (rs : List Row). sim_text o.size (best_cell rs)
+          (report_by o.size o.knobs.playouts rs))
+          (sequential_rows_of o.knobs start Black t f c tree.2 w);
     }
 
 -- ---- mode bench
 
 -- with one worker the text is that of the rows; with several these are not told
-by_rows : (size stones records cell : ℕ) (knobs : Knobs) (rows others : List Row) → cell ≡ best_cell rows → (knobs.workers ≡ 1 → rows ≡ others)
-    → bench_text size stones knobs records rows cell ≡ bench_text size stones knobs records others (best_cell others)
+by_rows : (size stones records cell : ℕ) (knobs : Knobs) (rows others : List Row)
+    → cell ≡ best_cell rows → (knobs.workers ≡ 1 → rows ≡ others)
+    → bench_text size stones knobs records rows cell ≡ bench_text size stones knobs records others
+    (best_cell others)
 by_rows size stones records cell knobs rows others e h = elim (cases_eq knobs.workers 1) [
-  | inl one ↦ ap (bench_text size stones knobs records rows) e ∙ ap (λ (rs : List Row). bench_text size stones knobs records rs (best_cell rs)) (h one)
+  | inl one ↦ ap (bench_text size stones knobs records rows) e
+      ∙ ap (λ (rs : List Row). bench_text size stones knobs records rs (best_cell rs)) (h one)
   | inr n ↦
       let several = ne_eqb knobs.workers 1 n in
       let lines : List ℕ = bench_lines size stones knobs.playouts records in
       ap (λ b. lines ++ cond b (best_line size cell (visits_of rows cell)) []) several
-      ∙ sym (ap (λ b. lines ++ cond b (best_line size (best_cell others) (visits_of others (best_cell others))) []) several)
+      ∙ sym (ap (λ b. lines ++ cond b
+      (best_line size (best_cell others) (visits_of others (best_cell others))) []) several)
 ]
 
 -- the position's board is that of the options
-position_board : (o : ModeOptions) (p : BenchPosition) → IsBenchPosition o.size o.knobs.seed p → p.board ≡ bench_board o
+position_board : (o : ModeOptions) (p : BenchPosition) → IsBenchPosition o.size o.knobs.seed p
+    → p.board ≡ bench_board o
 position_board o p h = h.board ∙ ap (board_on o.size (shuffled_cells o.size o.knobs.seed)) h.stones
 
-pub bench_size : (o : ModeOptions) (p : BenchPosition) → IsBenchPosition o.size o.knobs.seed p → p.board.size ≡ o.size → (bench_board o).size ≡ o.size
+pub bench_size : (o : ModeOptions) (p : BenchPosition) → IsBenchPosition o.size o.knobs.seed p
+    → p.board.size ≡ o.size → (bench_board o).size ≡ o.size
 bench_size o p h n = ap (λ (b : Position). b.size) (sym (position_board o p h)) ∙ n
 
-pub bench_turn : (o : ModeOptions) (p : BenchPosition) (t : TurnData) → IsBenchPosition o.size o.knobs.seed p → IsFirstTurn o.knobs p.board p.colour t → IsFirstTurn o.knobs (bench_board o) (bench_player o) t
+pub bench_turn : (o : ModeOptions) (p : BenchPosition) (t : TurnData)
+    → IsBenchPosition o.size o.knobs.seed p → IsFirstTurn o.knobs p.board p.colour t
+    → IsFirstTurn o.knobs (bench_board o) (bench_player o) t
 bench_turn o p t h f =
     subst (λ (b : Position). IsFirstTurn o.knobs b (bench_player o) t) (position_board o p h)
     (subst (λ (k : Colour). IsFirstTurn o.knobs p.board k t) (h.colour ∙ ap mover_after h.stones) f)
 
-pub benchmark_says : (o : ModeOptions) (t : TurnData) (stones : ℕ) (text items : List ℕ) → IsFirstTurn o.knobs (bench_board o) (bench_player o) t → stones ≡ bench_stones o → (bench_board o).size ≡ o.size → text ≡ items
+pub benchmark_says : (o : ModeOptions) (t : TurnData) (stones : ℕ) (text items : List ℕ)
+    → IsFirstTurn o.knobs (bench_board o) (bench_player o) t → stones ≡ bench_stones o
+    → (bench_board o).size ≡ o.size → text ≡ items
     → TellsBench o.knobs stones t items → IsBenchmark o t text
 benchmark_says o t stones text items f m n same says =
     let now : Position = bench_board o in
@@ -86,13 +106,17 @@ benchmark_says o t stones text items f m n same says =
     let rows : List Row = rows_of c.shape c.words in
     let size : t.board.size ≡ o.size = ap (λ (p : Position). p.size) f.board ∙ n in
     let said : text ≡ bench_text o.size (bench_stones o) o.knobs (records_in c) rows t.cell
-    = same ∙ says c tree.1 ∙ ap (λ k. bench_text k stones o.knobs (records_in c) rows t.cell) size ∙ ap (λ k. bench_text o.size k o.knobs (records_in c) rows t.cell) m in
+    = same ∙ says c tree.1 ∙ ap (λ k. bench_text k stones o.knobs (records_in c) rows t.cell) size
+    ∙ ap (λ k. bench_text o.size k o.knobs (records_in c) rows t.cell) m in
     let setting = tree_setting o.knobs now mover t f c tree.2 in
-    let records : records_in c ≡ o.knobs.playouts = all_recorded c.shape c.words tree.2.closed ∙ ap (λ (z : Setting). z.knobs.playouts) setting in
+    let records : records_in c ≡ o.knobs.playouts = all_recorded c.shape c.words tree.2.closed
+    ∙ ap (λ (z : Setting). z.knobs.playouts) setting in
     record {
       turn = f;
       says = (c, tree.1, said);
       determined = said
           ∙ ap (λ k. bench_text o.size (bench_stones o) o.knobs k rows t.cell) records
-          ∙ by_rows o.size (bench_stones o) o.knobs.playouts t.cell o.knobs rows (first_rows o.knobs now mover) (best_in c.shape c.words t.cell tree.2.best) (λ w. sequential_rows_of o.knobs now mover t f c tree.2 w);
+          ∙ by_rows o.size (bench_stones o) o.knobs.playouts t.cell o.knobs rows
+          (first_rows o.knobs now mover) (best_in c.shape c.words t.cell tree.2.best)
+          (λ w. sequential_rows_of o.knobs now mover t f c tree.2 w);
     }

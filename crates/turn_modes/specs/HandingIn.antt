@@ -7,10 +7,12 @@ use Rattle.hex_devices.specs.Devices.{LinkAndArchive, Outcome}
 use Rattle.hex_devices.specs.declared.stops.Stop.TheVariants.{ReadFault, WriteFault, Memory}
 use Rattle.hex_devices.specs.declared.stops.Stop.TheVariants.{TooLong, ArchiveFault}
 use Rattle.turn_modes.specs.OneTurn.{FollowsSchedule, IsSimulation, IsBenchmark}
+use Rattle.turn_modes.specs.declared.modes.TurnMode.{TurnMode}
+use Rattle.turn_modes.specs.declared.modes.TurnMode.TheVariants.{Sim, Bench}
 use Rattle.turn_modes.specs.declared.options.ModeOptions.{ModeOptions}
 
 -- A turn with its text was handed over: the archive took the turn, and then the text was given, or
--- at a write fault a front of it that is not all of it. At an archive fault or for want of memory
+-- at a write fault a prefix of it that is not all of it. At an archive fault or out of memory
 -- the archive has the same turns and nothing was given. Nothing was read.
 abbrev pub HandsIn : (TurnData → List ℕ → Type 0) → LinkAndArchive → LinkAndArchive
     → Outcome → Type 0
@@ -25,10 +27,8 @@ HandsIn Says old new (Err Memory) = (new.0 ≡ old.0) × Same old.1 new.1
 HandsIn Says old new (Err TooLong) = ⊥
 HandsIn Says old new (Err ArchiveFault) = (new.0 ≡ old.0) × Same old.1 new.1
 
--- what mode sim did: the turn that it handed in has the tree of its schedule
-abbrev pub IsSimulated : ModeOptions → LinkAndArchive → LinkAndArchive → Outcome → Type 0
-IsSimulated o = HandsIn (λ turn text. IsSimulation o turn text × FollowsSchedule o turn)
-
--- what mode bench did
-abbrev pub IsBenchmarked : ModeOptions → LinkAndArchive → LinkAndArchive → Outcome → Type 0
-IsBenchmarked o = HandsIn (IsBenchmark o)
+-- the turn and the text that a mode hands in: in sim those of a simulation whose tree is that of
+-- its schedule, in bench those of a benchmark
+abbrev pub IsTurnOf : TurnMode → ModeOptions → TurnData → List ℕ → Type 0
+IsTurnOf Sim o turn text = IsSimulation o turn text × FollowsSchedule o turn
+IsTurnOf Bench o turn text = IsBenchmark o turn text

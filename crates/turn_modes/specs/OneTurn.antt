@@ -35,7 +35,7 @@ use Rattle.turn_modes.specs.declared.options.ModeOptions.{ModeOptions}
 abbrev pub IsFirstTurn : Knobs → Position → Colour → TurnData → Type 0
 IsFirstTurn knobs now mover = IsOwed knobs false now mover 0
 
--- the turn is a first turn wherever its plan and tree are those of one
+-- the turn is a first turn whenever its plan and tree are those of one
 abbrev pub MakesFirstTurn : Planned → ClosedTree → TurnData → Type 0
 MakesFirstTurn planned tree t = (knobs : Knobs) (now : Position) (mover : Colour)
     → winner_of now ≡ None → IsPlanned now mover false planned

@@ -1,4 +1,4 @@
--- The position of mode bench: a front of the shuffled cells has stones, in turn.
+-- The position of mode bench: a prefix of the shuffled cells has stones, in turn.
 use Rattle.std.specs.Prelude.{ℕ, zero, suc, ◌+◌, ◌*◌, ◌/◌, ◌≡◌, Bool, List, take, not, is_some}
 use Rattle.std.specs.List.{prefix_len, range_with_len}
 use Rattle.hex_cells.specs.Colours.{other_of}
@@ -32,7 +32,7 @@ unfoldable pub placed_count : ℕ → List ℕ → ℕ
 placed_count size cells = prefix_len (λ m. is_open (board_on size cells (m + 1)))
     (range_with_len 0 (size * size / 3))
 
--- the position after stones on the longest such front of these cells
+-- the position after stones on the longest such prefix of these cells
 pub record IsPlacedOn (size : ℕ) (cells : List ℕ) (p : BenchPosition) : Type 0 where
   pub stones : p.stones ≡ placed_count size cells
   pub board : p.board ≡ board_on size cells p.stones

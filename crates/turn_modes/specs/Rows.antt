@@ -11,12 +11,12 @@ abbrev pub preferred_of : Row → List Row → Row
 preferred_of best [] = best
 preferred_of best (row ∷ rows) = preferred_of (if is_preferred row best then row else best) rows
 
--- the cell of most visits, and of those with as many the lowest; 0 where there is no row
+-- the cell of most visits, and of those with as many the lowest; 0 if there is no row
 unfoldable pub best_cell : List Row → ℕ
 best_cell [] = 0
 best_cell (row ∷ rows) = (preferred_of row rows).cell
 
--- the visits of the row with this cell; 0 where there is none
+-- the visits of the row with this cell; 0 if there is none
 unfoldable pub visits_of : List Row → ℕ → ℕ
 visits_of [] cell = 0
 visits_of (row ∷ rows) cell = if row.cell == cell then row.visits else visits_of rows cell

@@ -13,7 +13,7 @@ abbrev pub TellsSim : TurnData → List ℕ → Type 0
 TellsSim t text =
     ForSome (report_of t) (λ report. text ≡ sim_text t.board.size t.cell report)
 
--- the text of mode bench, where so many stones were placed
+-- the text of mode bench, if so many stones were placed
 abbrev pub TellsBench : Knobs → ℕ → TurnData → List ℕ → Type 0
 TellsBench knobs stones t text = ForSome t.closed (λ tree. text
     ≡ bench_text t.board.size stones knobs (records_in tree)

@@ -2,18 +2,18 @@
 //!
 //! **Nouns.** The *position* of bench is a board on which stones were placed in turn on shuffled
 //! cells ([`bench_position`]). The *schedule* of sim says which simulated worker makes each step.
-//! Both are drawn from the seed. What a mode is told are its [`ModeOptions`].
+//! Both are drawn from the seed. A [`TurnMode`] says which of the two modes it is, and what it is
+//! told are its [`ModeOptions`].
 //!
-//! **A caller** calls [`simulation`] or [`benchmark`] with the devices of a run. The turn is
-//! searched and its text made; then the archive takes the turn, and the link the text:
+//! **A caller** calls [`hand_in`] with the mode and the devices of a run. The turn is searched and
+//! its text made; then the archive takes the turn, and the link the text:
 //!
 //! ```text
-//! let outcome = simulation(alloc, &options, &mut devices);
-//! let outcome = benchmark(alloc, &options, &mut devices);
+//! let outcome = hand_in(alloc, TurnMode::Bench, &options, &mut devices);
 //! ```
 //!
 //! **What is proved**, in the words of specs/OneTurn.antt and specs/HandingIn.antt: after success
-//! the archive has exactly one turn more, where it tells; the turn is good for a session that looks
+//! the archive has exactly one turn more, if it tells; the turn is good for a session that looks
 //! for no connections, and has number 0. In sim it is that of the board without stones, with Black
 //! to move, and its tree is that of the schedule; in bench it is that of the position, whose stones
 //! are the longest prefix of a third of the shuffled cells of which none joins its player. The text
@@ -35,7 +35,7 @@
 //!   player.
 //! - A text can be a function of the options only if its cell is one, so the best cell is a
 //!   function of rows (`best_cell`); that it is the cell of `IsBest` is proved.
-//! - The tree of `sim` is that of its schedule by a clause of [`simulation`] and by none of `run`,
+//! - The tree of `sim` is that of its schedule by a clause of [`hand_in`] and by none of `run`,
 //!   which would ask the reader for the worker as a machine of single steps, some 130 definitions.
 //!   With one worker it is also the sequential search's.
 #![tactic(auto)]
@@ -48,7 +48,7 @@ mod schedules;
 mod searches;
 mod texts;
 
-pub use modes::{benchmark, simulation};
+pub use modes::{TurnMode, hand_in};
 pub use options::ModeOptions;
 pub use positions::{BenchPosition, bench_position};
 pub use schedules::schedule;

@@ -1,9 +1,9 @@
 //! Modes sim and bench.
 
-ghost use Rattle.std.specs.Prelude.{◌≡◌};
+ghost use Rattle.std.specs.Prelude.{◌≡◌, IfOk};
 ghost use Rattle.tree_words.specs.Settings.{AreInRange};
 ghost use Rattle.hex_devices.specs.Devices.{CountsFaults, link_and_archive};
-ghost use Rattle.turn_modes.specs.HandingIn.{IsBenchmarked, IsSimulated};
+ghost use Rattle.turn_modes.specs.HandingIn.{HandsIn, IsTurnOf};
 
 use super::options::ModeOptions;
 use super::positions::bench_position;
@@ -11,56 +11,95 @@ use super::searches::{benchmarked_turn, simulated_turn};
 use super::texts::{bench_text, sim_text};
 use hex_devices::{Devices, Stop, hand_over};
 use hex_io::{Link, Shelf};
-use hex_plan::Archive;
+use hex_plan::{Archive, Memory, Turn};
 use search_team::Gate;
 use std::alloc::Global;
 use std::thread::Threads;
 
-/// Mode sim: searches the board without stones, with Black to move, by simulated workers whose
-/// schedule is drawn from the seed, and hands in the turn and then its text.
+/// A mode that hands in one turn.
+#[derive(Clone, Copy, Debug, PartialEq, Eq)]
+pub enum TurnMode {
+    /// It searches the board without stones, with Black to move, by simulated workers whose
+    /// schedule is drawn from the seed.
+    Sim,
+    /// It searches the position that the seed and the size make, by a team of workers.
+    Bench,
+}
+
+// A turn, and the text that tells it.
+#[derive(Drop)]
+struct ToldTurn {
+    turn: Turn,
+    text: Vec<u8>,
+}
+
+/// Searches the position of the mode, and hands in the turn and then its text.
 ///
 /// `ArchiveFault` and `WriteFault` come only if the archive or the link counted that fault. It
 /// refuses otherwise only if memory runs out, before the turn is handed in. It reads nothing, and
 /// fetches nothing from the shelf.
-pub fn simulation<L: Link, F: Shelf, A: Archive, R: Threads + Sync, G: Gate + Sync>(
+pub fn hand_in<L: Link, F: Shelf, A: Archive, R: Threads + Sync, G: Gate + Sync>(
     alloc: Global,
+    mode: TurnMode,
     options: &ModeOptions,
     devices: &mut Devices<'_, '_, '_, '_, L, F, A, R, G>,
 ) -> Result<(), Stop>
     requires { AreInRange options.now.knobs }
-    ensures simulated { IsSimulated options.now
+    ensures hands { HandsIn (IsTurnOf mode options.now)
         (link_and_archive devices.old) (link_and_archive devices.new) result }
     ensures reads { devices.new.read_faults ≡ devices.old.read_faults }
     ensures shelf { devices.new.shelf ≡ devices.old.shelf }
     ensures fetches { devices.new.fetch_faults ≡ devices.old.fetch_faults }
     ensures counts { CountsFaults devices.old devices.new result }
+{
+    let told = told_turn(devices.rt, alloc, mode, options, devices.gate)?;
+    hand_over(
+        &mut *devices.link,
+        &mut *devices.archive,
+        told.turn,
+        &told.text,
+    )
+}
+
+// The turn of the mode, and its text.
+fn told_turn<R: Threads + Sync, G: Gate + Sync>(
+    rt: &R,
+    alloc: Global,
+    mode: TurnMode,
+    options: &ModeOptions,
+    gate: &G,
+) -> Result<ToldTurn, Memory>
+    requires { AreInRange options.now.knobs }
+    ensures { IfOk result (λ told. IsTurnOf mode options.now told.turn told.text.items) }
+{
+    match mode {
+        TurnMode::Sim => simulation(alloc, options),
+        TurnMode::Bench => benchmark(rt, alloc, options, gate),
+    }
+}
+
+// The turn of mode sim, and its text.
+fn simulation(alloc: Global, options: &ModeOptions) -> Result<ToldTurn, Memory>
+    requires { AreInRange options.now.knobs }
+    ensures { IfOk result (λ told. IsTurnOf TurnMode.Sim options.now told.turn told.text.items) }
 {
     let turn = simulated_turn(alloc, options)?;
     let text = sim_text(alloc, &turn)?;
-    hand_over(&mut *devices.link, &mut *devices.archive, turn, &text)
+    Ok(ToldTurn { turn, text })
 }
 
-/// Mode bench: searches the position that the seed and the size make by a team of workers, and
-/// hands in the turn and then its text.
-///
-/// `ArchiveFault` and `WriteFault` come only if the archive or the link counted that fault. It
-/// refuses otherwise only if memory runs out, before the turn is handed in. It reads nothing, and
-/// fetches nothing from the shelf.
-pub fn benchmark<L: Link, F: Shelf, A: Archive, R: Threads + Sync, G: Gate + Sync>(
+// The turn of mode bench, and its text.
+fn benchmark<R: Threads + Sync, G: Gate + Sync>(
+    rt: &R,
     alloc: Global,
     options: &ModeOptions,
-    devices: &mut Devices<'_, '_, '_, '_, L, F, A, R, G>,
-) -> Result<(), Stop>
+    gate: &G,
+) -> Result<ToldTurn, Memory>
     requires { AreInRange options.now.knobs }
-    ensures benchmarked { IsBenchmarked options.now
-        (link_and_archive devices.old) (link_and_archive devices.new) result }
-    ensures reads { devices.new.read_faults ≡ devices.old.read_faults }
-    ensures shelf { devices.new.shelf ≡ devices.old.shelf }
-    ensures fetches { devices.new.fetch_faults ≡ devices.old.fetch_faults }
-    ensures counts { CountsFaults devices.old devices.new result }
+    ensures { IfOk result (λ told. IsTurnOf TurnMode.Bench options.now told.turn told.text.items) }
 {
     let position = bench_position(options.size, options.knobs.seed);
-    let turn = benchmarked_turn(devices.rt, alloc, &position, &options.knobs, devices.gate)?;
+    let turn = benchmarked_turn(rt, alloc, &position, &options.knobs, gate)?;
     let text = bench_text(alloc, &options.knobs, position.stones, &turn)?;
-    hand_over(&mut *devices.link, &mut *devices.archive, turn, &text)
+    Ok(ToldTurn { turn, text })
 }

@@ -32,7 +32,7 @@ struct Prepared {
     shape: Shape,
 }
 
-// Prepares the search of the turn with number 0 on the board, where no connections are looked for.
+// Prepares the search of the turn with number 0 on the board, with no look for connections.
 fn prepare(alloc: Global, board: &Board, colour: Colour, knobs: &Knobs) -> Result<Prepared, Memory>
     requires nobody { winner_of board.now ≡ None }
     requires room { (k : ℕ) × (is_empty_at board.now k ≡ true) }

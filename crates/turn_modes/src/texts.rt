@@ -40,7 +40,7 @@ fn push_line(
     Ok(())
 }
 
-// The visits of the row with this cell, 0 where there is none.
+// The visits of the row with this cell, 0 if there is none.
 fn visits_of(rows: &[Row], cell: Cell) -> u32
     ensures { result ≡ visits_of rows.now cell }
 {

@@ -5,4 +5,9 @@ use Rattle.turn_modes.proofs.positions.bare_board.Goals as goal
 
 pub returns-clause-nobody : goal.returns-clause-nobody
 returns-clause-nobody c =
-    ap winner_of (c.of.ensures ∙ (λ i. record { size = c.args.size; black = c.none.ensures.value i; white = c.none-2.ensures.value i })) ∙ bare_open c.args.size
+    ap winner_of
+    (c.of.ensures ∙ (λ i. record {
+      size = c.args.size;
+      black = c.none.ensures.value i;
+      white = c.none-2.ensures.value i;
+    })) ∙ bare_open c.args.size

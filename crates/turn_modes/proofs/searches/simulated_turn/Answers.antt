@@ -15,23 +15,32 @@ returns-clause-turn c =
     let s = c.in_ok-prepared.prepared.shape in
     let same : c.in-Ok.closed.shape ≡ s = c.in-Ok.ensures.shape in
     subst (λ p. IsFirstTurn knobs p Black c.decide.result) c.bare_board-board.ensures.value
-    (c.decide.ensures.first knobs board Black c.bare_board-board.ensures.nobody c.in_ok-prepared.ensures.planned
+    (c.decide.ensures.first knobs board Black c.bare_board-board.ensures.nobody
+    c.in_ok-prepared.ensures.planned
     (shape_of_tree knobs board Black s c.in-Ok.closed same c.in_ok-prepared.ensures.shape)
-    (sequential_tree knobs board Black s c.in-Ok.closed same c.in_ok-prepared.ensures.shape c.in-Ok.ensures.one))
+    (sequential_tree knobs board Black s c.in-Ok.closed same c.in_ok-prepared.ensures.shape
+    c.in-Ok.ensures.one))
 
 pub returns-clause-scheduled : goal.returns-clause-scheduled
 returns-clause-scheduled c =
     let knobs = c.args.options.now.knobs in
-    let list : c.deref.result.now ≡ schedule_of knobs.workers knobs.seed c.args.options.now.steps = c.deref.ensures.value ∙ c.in_ok-list.ensures.value in
+    let list : c.deref.result.now ≡ schedule_of knobs.workers knobs.seed c.args.options.now.steps
+    = c.deref.ensures.value ∙ c.in_ok-list.ensures.value in
     let tree = c.in-Ok.closed in (
       tree,
       c.decide.ensures.closed,
-      subst (λ (z : Setting). EndsSchedule z (schedule_of knobs.workers knobs.seed c.args.options.now.steps) tree.words) (sym c.in-Ok.ensures.shape)
-          (subst (λ (xs : List ℕ). EndsSchedule c.in_ok-prepared.prepared.shape xs tree.words) list c.in-Ok.ensures.schedule),
+      subst (λ (z : Setting). EndsSchedule z
+          (schedule_of knobs.workers knobs.seed c.args.options.now.steps) tree.words)
+          (sym c.in-Ok.ensures.shape)
+          (subst (λ (xs : List ℕ). EndsSchedule c.in_ok-prepared.prepared.shape xs tree.words) list
+          c.in-Ok.ensures.schedule),
     )
 
 pub follow-requires : goal.follow-requires
 follow-requires c =
-    let workers : c.in_ok-prepared.prepared.shape.knobs.workers ≡ c.args.options.now.knobs.workers = ap (λ (k : Knobs). k.workers) c.in_ok-prepared.ensures.shape.knobs in
-    subst (λ (xs : List ℕ). All (λ worker. worker < c.in_ok-prepared.prepared.shape.knobs.workers) xs) (sym c.deref.ensures.value)
-    (subst (λ n. All (λ worker. worker < n) c.in_ok-list.list.items) (sym workers) c.in_ok-list.ensures.below)
+    let workers : c.in_ok-prepared.prepared.shape.knobs.workers ≡ c.args.options.now.knobs.workers
+    = ap (λ (k : Knobs). k.workers) c.in_ok-prepared.ensures.shape.knobs in
+    subst (λ (xs : List ℕ). All (λ worker. worker < c.in_ok-prepared.prepared.shape.knobs.workers)
+    xs) (sym c.deref.ensures.value)
+    (subst (λ n. All (λ worker. worker < n) c.in_ok-list.list.items)
+    (sym workers) c.in_ok-list.ensures.below)

@@ -16,4 +16,6 @@ has_report t h e = none t.closed h e
 
 pub unreachable-requires : goal.unreachable-requires
 unreachable-requires c =
-    has_report c.args.turn.now c.requires (sym (ap (option_map (λ text. text.now)) c.in_default.is) ∙ c.report.ensures ∙ ap (λ texts. texts.report) c.in_ok-texts.ensures)
+    has_report c.args.turn.now c.requires
+    (sym (ap (option_map (λ text. text.now)) c.in_default.is) ∙ c.report.ensures
+    ∙ ap (λ texts. texts.report) c.in_ok-texts.ensures)

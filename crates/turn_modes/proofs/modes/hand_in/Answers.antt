@@ -1,0 +1,17 @@
+-- What was handed over is what was told.
+use Rattle.std.proofs.Common.{ℕ, List, rules, subst, sym}
+use Rattle.turn_modes.specs.HandingIn.{IsTurnOf}
+use Rattle.turn_modes.proofs.Handed.{handed_as}
+use Rattle.turn_modes.proofs.modes.hand_in.Goals as goal
+
+pub returns-clause-hands : goal.returns-clause-hands
+returns-clause-hands g c =
+    let turn = c.in_ok-told.told.turn in
+    let says : IsTurnOf c.args.mode c.args.options.now turn c.deref.result.now
+    = subst (λ (text : List ℕ). IsTurnOf c.args.mode c.args.options.now turn text)
+    (sym c.deref.ensures.value) c.in_ok-told.ensures in
+    handed_as (IsTurnOf c.args.mode c.args.options.now)
+    (g.L.Link.told c.devices.inside.link.now) (g.L.Link.told c.hand_over.new.link) _ _
+    (g.A.Archive.told c.devices.inside.archive.now) (g.A.Archive.told c.hand_over.new.archive) _ _
+    turn c.deref.result.now c.hand_over.result
+    (search rules) (search rules) (search rules) (search rules) says c.hand_over.ensures.hands
