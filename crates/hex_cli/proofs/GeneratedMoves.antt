@@ -1,5 +1,7 @@
 -- Each line that takes a turn is answered by a generated move.
-use Rattle.std.proofs.Common.{◌≡◌, ◌≢◌, ℕ, zero, suc, Bool, true, false, cond, List, [], ◌∷◌, ◌++◌, Option, Some, None, Result, Ok, Err, ◌⊎◌, ⊎_elim, inl, inr, fold, drop, refl, sym, ap, ◌∙◌, subst, add-one}
+use Rattle.std.proofs.Common.{◌≡◌, ◌≢◌, ℕ, zero, suc, Bool, true, false, cond, List, [], ◌∷◌, ◌++◌}
+use Rattle.std.proofs.Common.{Option, Some, None, Result, Ok, Err, ◌⊎◌, ⊎_elim, inl, inr, fold}
+use Rattle.std.proofs.Common.{drop, refl, sym, ap, ◌∙◌, subst, add-one}
 use Rattle.std.specs.List.{AllByRecursion}
 use Rattle.std.specs.Prelude.{slice_get}
 use Rattle.std.proofs.lemmas.List.Sums.{fold_push}
@@ -27,7 +29,8 @@ use Rattle.hex_engine.specs.Uses.{AreGood}
 use Rattle.hex_engine.specs.MoveReplies.{is_next, turned}
 use Rattle.hex_engine.specs.Replies.{Turned, Missing}
 use Rattle.hex_engine.specs.Requests.{reaction}
-use Rattle.htp_session.specs.Talk.{TalkState, goes_on, reply_text, after_reaction, after_reading, after_line, followed_by, with_line, talk_start, talk}
+use Rattle.htp_session.specs.Talk.{TalkState, goes_on, reply_text, after_reaction, after_reading}
+use Rattle.htp_session.specs.Talk.{after_line, followed_by, with_line, talk_start, talk}
 use Rattle.htp_session.specs.Endings.{since}
 use Rattle.hex_cli.specs.Headline.{IsGeneratedMove, AreGeneratedMoves, WinsOrIsBest}
 use Rattle.hex_cli.specs.Playing.{HasTrueThreats}
@@ -50,7 +53,8 @@ record SaysTurn (at : EngineState) (left : Supply) (s : TalkState) : Type 0 wher
 abbrev MaySayTurn : EngineState → Supply → TalkState → Type 0
 MaySayTurn at left s = ((s.left.turns ≡ left.turns) × (s.at.turns ≡ at.turns)) ⊎ SaysTurn at left s
 
-turned_says : (at : EngineState) (left : Supply) (id : Option ℕ) (r : Result Turned Missing) → MayTakeTurn at left r → MaySayTurn at left (after_reaction at left id r)
+turned_says : (at : EngineState) (left : Supply) (id : Option ℕ) (r : Result Turned Missing)
+    → MayTakeTurn at left r → MaySayTurn at left (after_reaction at left id r)
 turned_says at left id (Err missing) h = inl (refl, refl)
 turned_says at left id (Ok t) h = ⊎_elim
     (λ (same : (t.left.turns ≡ left.turns) × (t.after.turns ≡ at.turns)). inl same)
@@ -63,25 +67,30 @@ turned_says at left id (Ok t) h = ⊎_elim
       written = (id, ap (reply_text id) took.reply);
     })) h
 
-reading_says : (at : EngineState) (left : Supply) (line : Parsed) → MaySayTurn at left (after_reading at left line)
+reading_says : (at : EngineState) (left : Supply) (line : Parsed)
+    → MaySayTurn at left (after_reading at left line)
 reading_says at left Blank = inl (refl, refl)
 reading_says at left (Bare id) = inl (refl, refl)
-reading_says at left (Request asked) = turned_says at left asked.id (reaction at left asked) (reaction_takes at left asked)
+reading_says at left (Request asked) = turned_says at left asked.id (reaction at left asked)
+    (reaction_takes at left asked)
 
-said_says : (at : EngineState) (left : Supply) (line : Option (List ℕ)) → MaySayTurn at left (after_line at left line)
+said_says : (at : EngineState) (left : Supply) (line : Option (List ℕ))
+    → MaySayTurn at left (after_line at left line)
 said_says at left None = inl (refl, refl)
 said_says at left (Some raw) = reading_says at left (reading raw)
 
 -- ---- the turns that are left
 
 -- what begins with x from place n on has x there, and goes on with what follows
-dropped : (xs : List TurnData) (n : ℕ) (x : TurnData) (others : List TurnData) → drop n xs ≡ x ∷ others → (slice_get xs n ≡ Some x) × (drop (suc n) xs ≡ others)
+dropped : (xs : List TurnData) (n : ℕ) (x : TurnData) (others : List TurnData)
+    → drop n xs ≡ x ∷ others → (slice_get xs n ≡ Some x) × (drop (suc n) xs ≡ others)
 dropped [] zero x others e = absurd (cc)
 dropped [] (suc n) x others e = absurd (cc)
 dropped (y ∷ ys) zero x others e = (cc, cc)
 dropped (y ∷ ys) (suc n) x others e = dropped ys n x others e
 
--- the turns that are left are those after the turns that were taken, and they are good for the options
+-- the turns that are left are those after the turns that were taken, and they are good for the
+-- options
 record Holds (options : Options) (turns : List TurnData) (s : TalkState) : Type 0 where
   good : AreGood options s.left.turns
   place : drop s.at.turns turns ≡ s.left.turns
@@ -92,7 +101,9 @@ record Goes (options : Options) (turns : List TurnData) (before after : TalkStat
   holds : Holds options turns after
   generated : after.at.turns ≢ before.at.turns → IsGeneratedMove options turns before after
 
-stands_still : (options : Options) (turns : List TurnData) (before after : TalkState) → Holds options turns before → after.at.options ≡ before.at.options → after.left.turns ≡ before.left.turns → after.at.turns ≡ before.at.turns
+stands_still : (options : Options) (turns : List TurnData) (before after : TalkState)
+    → Holds options turns before → after.at.options ≡ before.at.options
+    → after.left.turns ≡ before.left.turns → after.at.turns ≡ before.at.turns
     → Goes options turns before after
 stands_still options turns before after h o l t = record {
   holds = record {
@@ -104,58 +115,87 @@ stands_still options turns before after h o l t = record {
 }
 
 -- a win's cell wins, and a search's is the best of its tree
-chosen_by : (options : Options) (turn : TurnData) (plan : Plan) → turn.planned.plan ≡ plan → FollowsPlan options.knobs turn plan → IsCertified turn → WinsOrIsBest options.knobs turn plan
+chosen_by : (options : Options) (turn : TurnData) (plan : Plan) → turn.planned.plan ≡ plan
+    → FollowsPlan options.knobs turn plan → IsCertified turn → WinsOrIsBest options.knobs turn plan
 chosen_by options turn (Win cert cell) is follows certified = certified (subst IsWin (sym is) tt)
 chosen_by options turn (Search threats allowed lost) is follows certified = follows
 
-takes_turn : (options : Options) (turns : List TurnData) (before : TalkState) (s : TalkState) → Holds options turns before → s.at.options ≡ before.at.options → SaysTurn before.at before.left s → Goes options turns before (followed_by before s)
+takes_turn : (options : Options) (turns : List TurnData) (before : TalkState) (s : TalkState)
+    → Holds options turns before → s.at.options ≡ before.at.options
+    → SaysTurn before.at before.left s → Goes options turns before (followed_by before s)
 takes_turn options turns before s h o took =
-    let good : AreGood options (took.turn ∷ s.left.turns) = subst (AreGood options) took.was h.good in
+    let good : AreGood options (took.turn ∷ s.left.turns)
+    = subst (AreGood options) took.was h.good in
     let at = dropped turns before.at.turns took.turn s.left.turns (h.place ∙ took.was) in
-    let count : s.at.turns ≡ suc before.at.turns = ap (λ (e : EngineState). e.turns) took.after ∙ add-one before.at.turns in
+    let count : s.at.turns ≡ suc before.at.turns = ap (λ (e : EngineState). e.turns) took.after
+    ∙ add-one before.at.turns in
     record {
-      holds = record { good = good.1; place = ap (λ n. drop n turns) count ∙ at.1; same = o ∙ h.same };
+      holds = record {
+        good = good.1;
+        place = ap (λ n. drop n turns) count ∙ at.1;
+        same = o
+            ∙ h.same;
+      };
       generated = λ moved. record {
         turn = took.turn;
         colour = took.colour;
         next = took.next;
         placed = at.0;
-        chosen = chosen_by options took.turn took.turn.planned.plan refl good.0.follows (is_certified options.knobs options.hsearch took.turn good.0);
-        legal = next_is_legal before.at took.colour took.turn (subst (λ (p : Options). IsGood p.knobs p.hsearch took.turn) (sym h.same) good.0) took.next;
+        chosen = chosen_by options took.turn took.turn.planned.plan refl good.0.follows
+            (is_certified options.knobs options.hsearch took.turn good.0);
+        legal = next_is_legal before.at took.colour took.turn
+            (subst (λ (p : Options). IsGood p.knobs p.hsearch took.turn) (sym h.same) good.0)
+            took.next;
         played = ap (λ (e : EngineState). e.game) took.after;
         written = (took.written.0, ap (λ l. before.text ++ l) took.written.1);
       };
     }
 
-step_goes_if : (b : Bool) (options : Options) (turns : List TurnData) (a : TalkState) (line : Option (List ℕ)) → Holds options turns a → (cond b (followed_by a (after_line a.at a.left line)) a).at.options ≡ a.at.options
+step_goes_if : (b : Bool) (options : Options) (turns : List TurnData) (a : TalkState)
+    (line : Option (List ℕ)) → Holds options turns a
+    → (cond b (followed_by a (after_line a.at a.left line)) a).at.options ≡ a.at.options
     → Goes options turns a (cond b (followed_by a (after_line a.at a.left line)) a)
 step_goes_if false options turns a line h o = stands_still options turns a a h refl refl refl
 step_goes_if true options turns a line h o = ⊎_elim
-    (λ (same : ((after_line a.at a.left line).left.turns ≡ a.left.turns) × ((after_line a.at a.left line).at.turns ≡ a.at.turns)). stands_still options turns a (followed_by a (after_line a.at a.left line)) h o same.0 same.1)
-    (λ (took : SaysTurn a.at a.left (after_line a.at a.left line)). takes_turn options turns a (after_line a.at a.left line) h o took)
+    (λ (same : ((after_line a.at a.left line).left.turns ≡ a.left.turns)
+    × ((after_line a.at a.left line).at.turns ≡ a.at.turns)). stands_still options turns a
+    (followed_by a (after_line a.at a.left line)) h o same.0 same.1)
+    (λ (took : SaysTurn a.at a.left (after_line a.at a.left line)). takes_turn options turns a
+    (after_line a.at a.left line) h o took)
     (said_says a.at a.left line)
 
-step_goes : (options : Options) (turns : List TurnData) (a : TalkState) (raw : List ℕ) → Holds options turns a → (with_line a raw).at.options ≡ a.at.options → Goes options turns a (with_line a raw)
+step_goes : (options : Options) (turns : List TurnData) (a : TalkState) (raw : List ℕ)
+    → Holds options turns a → (with_line a raw).at.options ≡ a.at.options
+    → Goes options turns a (with_line a raw)
 unfolding with_line
-step_goes options turns a raw h o = step_goes_if (goes_on a.ending) options turns a (kept_line raw) h o
+step_goes options turns a raw h o = step_goes_if (goes_on a.ending) options turns a
+    (kept_line raw) h o
 
 -- ---- a talk
 
-fold_holds : (options : Options) (turns : List TurnData) (a : TalkState) (lines : List (List ℕ)) → Holds options turns a → Holds options turns (fold with_line a lines)
+fold_holds : (options : Options) (turns : List TurnData) (a : TalkState) (lines : List (List ℕ))
+    → Holds options turns a → Holds options turns (fold with_line a lines)
 fold_holds options turns a [] h = h
-fold_holds options turns a (raw ∷ lines) h = fold_holds options turns (with_line a raw) lines (step_goes options turns a raw h (step_keeps a raw)).holds
+fold_holds options turns a (raw ∷ lines) h = fold_holds options turns (with_line a raw) lines
+    (step_goes options turns a raw h (step_keeps a raw)).holds
 
-are_generated : (start : EngineState) (all : Supply) (lines : List (List ℕ)) → AreGood start.options all.turns → start.turns ≡ 0 → AreGeneratedMoves start all lines
+are_generated : (start : EngineState) (all : Supply) (lines : List (List ℕ))
+    → AreGood start.options all.turns → start.turns ≡ 0 → AreGeneratedMoves start all lines
 are_generated start all lines good none before raw others split moved =
-    let first : Holds start.options all.turns (talk_start start all) = record { good = good; place = ap (λ n. drop n all.turns) none; same = refl } in
+    let first : Holds start.options all.turns (talk_start start all)
+    = record { good = good; place = ap (λ n. drop n all.turns) none; same = refl } in
     let here : TalkState = talk start all before in
-    let holds : Holds start.options all.turns here = fold_holds start.options all.turns (talk_start start all) before first in
-    let more : talk start all (before ++ raw ∷ []) ≡ with_line here raw = fold_push with_line (talk_start start all) before raw in
+    let holds : Holds start.options all.turns here
+    = fold_holds start.options all.turns (talk_start start all) before first in
+    let more : talk start all (before ++ raw ∷ []) ≡ with_line here raw
+    = fold_push with_line (talk_start start all) before raw in
     let goes = step_goes start.options all.turns here raw holds (step_keeps here raw) in
-    subst (IsGeneratedMove start.options all.turns here) (sym more) (goes.generated (subst (λ (s : TalkState). s.at.turns ≢ here.at.turns) more moved))
+    subst (IsGeneratedMove start.options all.turns here) (sym more)
+    (goes.generated (subst (λ (s : TalkState). s.at.turns ≢ here.at.turns) more moved))
 
 -- the turns that a session used up tell true threats
-pub threats_at : (options : Options) (turns : List TurnData) → AreGood options turns → AllByRecursion HasTrueThreats turns
+pub threats_at : (options : Options) (turns : List TurnData) → AreGood options turns
+    → AllByRecursion HasTrueThreats turns
 threats_at options [] good = tt
 threats_at options (turn ∷ turns) good = (
   record {
@@ -165,6 +205,8 @@ threats_at options (turn ∷ turns) good = (
   threats_at options turns good.1,
 )
 
-pub headline_at : (options : Options) (size : ℕ) (used : Supply) (x y : Option Told) → Both x y (λ o n. Unit {0}) → AreGood options used.turns
+pub headline_at : (options : Options) (size : ℕ) (used : Supply) (x y : Option Told)
+    → Both x y (λ o n. Unit {0}) → AreGood options used.turns
     → Both x y (λ o n. AreGeneratedMoves (opening options size) used (lines (since o n)))
-headline_at options size used x y told good = Both-weaker x y _ _ (λ o n t. are_generated (opening options size) used _ good refl) told
+headline_at options size used x y told good
+    = Both-weaker x y _ _ (λ o n t. are_generated (opening options size) used _ good refl) told

@@ -1,5 +1,6 @@
 -- What follows of how a mode ends that hands in one turn.
-use Rattle.std.proofs.Common.{append-nil, Ok, Err, List, [], ◌≡◌, ◌≢◌, ℕ, ◌+◌, ◌≤◌, ◌⊎◌, length, drop, Option, refl, ap, sym, ◌∙◌, inl, inr, arith}
+use Rattle.std.proofs.Common.{append-nil, Ok, Err, List, [], ◌≡◌, ◌≢◌, ℕ, ◌+◌, ◌≤◌, ◌⊎◌, length}
+use Rattle.std.proofs.Common.{drop, Option, refl, ap, sym, ◌∙◌, inl, inr, arith}
 use Rattle.std.specs.Prelude.{◌↔◌}
 use Rattle.std.proofs.Math.Seq.{drop-append_seam}
 use Rattle.hex_io.specs.Grew.{Gave}
@@ -9,10 +10,12 @@ use Rattle.hex_plan.specs.Turns.{TurnData}
 use Rattle.htp_session.specs.Endings.{since}
 use Rattle.hex_devices.specs.Devices.{Outcome}
 use Rattle.hex_devices.specs.Devices.{LinkAndArchive}
-use Rattle.hex_devices.specs.declared.stops.Stop.TheVariants.{ReadFault, WriteFault, Memory, TooLong, ArchiveFault}
+use Rattle.hex_devices.specs.declared.stops.Stop.TheVariants.{ReadFault, WriteFault, Memory}
+use Rattle.hex_devices.specs.declared.stops.Stop.TheVariants.{TooLong, ArchiveFault}
 use Rattle.turn_modes.specs.HandingIn.{HandsIn}
 use Rattle.hex_devices.specs.Statuses.{end_for, status_of}
 use Rattle.hex_devices.specs.declared.ends.End.TheVariants.{Stopped}
+use Rattle.hex_cli.proofs.InputEnds.{IsComplete, IsLong, not_too_long}
 
 abbrev Answer : Type 1
 Answer = TurnData → List ℕ → Type 0
@@ -23,7 +26,8 @@ abbrev TookNone : Told → Told → Type 0
 TookNone o n = n.taken ≡ o.taken
 
 none_since : (o n : Told) → TookNone o n → length (since o n) ≡ 0
-none_since o n e = ap (λ (l : List ℕ). length (drop (length o.taken) l)) (e ∙ sym (append-nil o.taken)) ∙ ap length (drop-append_seam o.taken [])
+none_since o n e = ap (λ (l : List ℕ). length (drop (length o.taken) l))
+    (e ∙ sym (append-nil o.taken)) ∙ ap length (drop-append_seam o.taken [])
 
 gave_none : (x y : Option Told) (text : List ℕ) → Gave x y text → Both x y TookNone
 gave_none x y text gave = Both-weaker x y _ _ (λ o n e. ap (λ (t : Told). t.taken) e) gave
@@ -31,7 +35,8 @@ gave_none x y text gave = Both-weaker x y _ _ (λ o n e. ap (λ (t : Told). t.ta
 same_none : (x y : Option Told) → y ≡ x → Both x y TookNone
 same_none x y same = rw same (Both-refl x TookNone (λ o. refl))
 
-took_none : (IsAnswer : Answer) (a b : LinkAndArchive) (outcome : Outcome) → HandsIn IsAnswer a b outcome → Both a.0 b.0 TookNone
+took_none : (IsAnswer : Answer) (a b : LinkAndArchive) (outcome : Outcome)
+    → HandsIn IsAnswer a b outcome → Both a.0 b.0 TookNone
 took_none IsAnswer a b (Ok done) h = gave_none a.0 b.0 _ h.3
 took_none IsAnswer a b (Err ReadFault) h = absurd h
 took_none IsAnswer a b (Err WriteFault) h = gave_none a.0 b.0 _ h.3.4
@@ -41,7 +46,8 @@ took_none IsAnswer a b (Err ArchiveFault) h = same_none a.0 b.0 h.0
 
 -- ---- so the input is never too long
 
-not_long : (IsAnswer : Answer) (a b : LinkAndArchive) (outcome : Outcome) → HandsIn IsAnswer a b outcome → status_of (end_for outcome) ≢ 6
+not_long : (IsAnswer : Answer) (a b : LinkAndArchive) (outcome : Outcome)
+    → HandsIn IsAnswer a b outcome → status_of (end_for outcome) ≢ 6
 not_long IsAnswer a b (Ok done) h e = absurd (omega (arith, e))
 not_long IsAnswer a b (Err ReadFault) h e = absurd h
 not_long IsAnswer a b (Err WriteFault) h e = absurd (omega (arith, e))
@@ -49,19 +55,25 @@ not_long IsAnswer a b (Err Memory) h e = absurd (omega (arith, e))
 not_long IsAnswer a b (Err TooLong) h e = absurd h
 not_long IsAnswer a b (Err ArchiveFault) h e = absurd (omega (arith, e))
 
-pub handed_too_long : (IsAnswer : Answer) (limit : ℕ) (a b : LinkAndArchive) (outcome : Outcome) → HandsIn IsAnswer a b outcome
-    → Both a.0 b.0 (λ o n. (status_of (end_for outcome) ≡ 6) ↔ (length (since o n) ≡ limit + 1))
+pub handed_too_long : (IsAnswer : Answer) (limit : ℕ) (a b : LinkAndArchive) (outcome : Outcome)
+    → HandsIn IsAnswer a b outcome
+    → Both a.0 b.0 (IsLong limit (end_for outcome))
 handed_too_long IsAnswer limit a b outcome h =
-    Both-weaker a.0 b.0 _ _ (λ o n none. (λ e. absurd (not_long IsAnswer a b outcome h e), λ e. absurd (omega (arith, none_since o n none, e)))) (took_none IsAnswer a b outcome h)
+    Both-weaker a.0 b.0 _ _
+    (λ o n none. not_too_long limit _ _ (omega (arith, none_since o n none))
+    (not_long IsAnswer a b outcome h)) (took_none IsAnswer a b outcome h)
 
 -- ---- without a fault the mode is done, or memory ran out
 
-pub handed_complete : (IsAnswer : Answer) (limit : ℕ) (a b : LinkAndArchive) (outcome : Outcome) → HandsIn IsAnswer a b outcome
+pub handed_complete : (IsAnswer : Answer) (limit : ℕ) (a b : LinkAndArchive) (outcome : Outcome)
+    → HandsIn IsAnswer a b outcome
     → end_for outcome ≢ Stopped WriteFault → end_for outcome ≢ Stopped ArchiveFault
-    → Both a.0 b.0 (λ o n. length (since o n) ≤ limit → (status_of (end_for outcome) ≡ 0) ⊎ (status_of (end_for outcome) ≡ 1) ⊎ (status_of (end_for outcome) ≡ 5))
-handed_complete IsAnswer limit a b (Ok done) h w v = Both-weaker a.0 b.0 _ _ (λ o n p few. inl refl) (took_none IsAnswer a b (Ok done) h)
+    → Both a.0 b.0 (IsComplete limit (end_for outcome))
+handed_complete IsAnswer limit a b (Ok done) h w v = Both-weaker a.0 b.0 _ _ (λ o n p few. inl refl)
+    (took_none IsAnswer a b (Ok done) h)
 handed_complete IsAnswer limit a b (Err ReadFault) h w v = absurd h
 handed_complete IsAnswer limit a b (Err WriteFault) h w v = absurd (w refl)
-handed_complete IsAnswer limit a b (Err Memory) h w v = Both-weaker a.0 b.0 _ _ (λ o n p few. inr (inr refl)) (took_none IsAnswer a b (Err Memory) h)
+handed_complete IsAnswer limit a b (Err Memory) h w v
+    = Both-weaker a.0 b.0 _ _ (λ o n p few. inr (inr refl)) (took_none IsAnswer a b (Err Memory) h)
 handed_complete IsAnswer limit a b (Err TooLong) h w v = absurd h
 handed_complete IsAnswer limit a b (Err ArchiveFault) h w v = absurd (v refl)

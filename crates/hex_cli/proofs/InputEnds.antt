@@ -1,5 +1,7 @@
 -- What follows of how a mode ends that takes its whole input.
-use Rattle.std.proofs.Common.{Ok, Err, Result, Bool, true, false, List, [], ◌≡◌, ◌≢◌, ℕ, ◌+◌, ◌≤◌, ◌⊎◌, ◌++◌, length, drop, Option, refl, ap, sym, ◌∙◌, inl, inr, arith, subst}
+use Rattle.std.proofs.Common.{Ok, Err, Result, Bool, true, false, List, [], ◌≡◌, ◌≢◌, ℕ, ◌+◌, ◌≤◌}
+use Rattle.std.proofs.Common.{◌⊎◌, ◌++◌, length, drop, Option, refl, ap, sym, ◌∙◌, inl, inr, arith}
+use Rattle.std.proofs.Common.{subst}
 use Rattle.std.specs.Prelude.{◌↔◌}
 use Rattle.std.proofs.Math.Seq.{drop-append_seam}
 use Rattle.hex_io.specs.Told.{Told, Both}
@@ -7,47 +9,98 @@ use Rattle.hex_io.proofs.BothLaws.{Both-weaker}
 use Rattle.htp_session.specs.Endings.{since}
 use Rattle.hex_devices.specs.Inputs.{TextOf, TookAtMost, AnsweredAll, AnsweredPart, AnswersInput}
 use Rattle.hex_devices.specs.declared.stops.Stop.{Stop}
-use Rattle.hex_devices.specs.declared.stops.Stop.TheVariants.{ReadFault, WriteFault, Memory, TooLong, ArchiveFault}
+use Rattle.hex_devices.specs.declared.stops.Stop.TheVariants.{ReadFault, WriteFault, Memory}
+use Rattle.hex_devices.specs.declared.stops.Stop.TheVariants.{TooLong, ArchiveFault}
 use Rattle.hex_devices.proofs.InputLaws.{took_at_most, took_nothing}
 use Rattle.hex_devices.specs.Statuses.{end_of_answer, status_of}
+use Rattle.hex_devices.specs.declared.ends.End.{End}
 use Rattle.hex_devices.specs.declared.ends.End.TheVariants.{Usage, Stopped}
 
 taken_since : (o n : Told) (bytes : List ℕ) → n.taken ≡ o.taken ++ bytes → since o n ≡ bytes
 taken_since o n bytes e = ap (drop (length o.taken)) e ∙ drop-append_seam o.taken bytes
 
 few_since : (limit : ℕ) (o n : Told) → TookAtMost limit o n → length (since o n) ≤ limit
-few_since limit o n p = subst (λ (l : List ℕ). length l ≤ limit) (sym (taken_since o n p.0 p.2.taken)) p.1
+few_since limit o n p
+    = subst (λ (l : List ℕ). length l ≤ limit) (sym (taken_since o n p.0 p.2.taken)) p.1
 
-all_since : (Answers : TextOf) (accepted : Bool) (limit : ℕ) (o n : Told) → AnsweredAll Answers accepted limit o n → length (since o n) ≤ limit
-all_since Answers accepted limit o n p = subst (λ (l : List ℕ). length l ≤ limit) (sym (taken_since o n o.to_come p.1.taken)) p.1.in_limit
+all_since : (Answers : TextOf) (accepted : Bool) (limit : ℕ) (o n : Told)
+    → AnsweredAll Answers accepted limit o n → length (since o n) ≤ limit
+all_since Answers accepted limit o n p
+    = subst (λ (l : List ℕ). length l ≤ limit)
+    (sym (taken_since o n o.to_come p.1.taken)) p.1.in_limit
 
-part_since : (Answers : TextOf) (limit : ℕ) (o n : Told) → AnsweredPart Answers limit o n → length (since o n) ≤ limit
-part_since Answers limit o n p = subst (λ (l : List ℕ). length l ≤ limit) (sym (taken_since o n o.to_come p.4.taken)) p.4.in_limit
+part_since : (Answers : TextOf) (limit : ℕ) (o n : Told) → AnsweredPart Answers limit o n
+    → length (since o n) ≤ limit
+part_since Answers limit o n p
+    = subst (λ (l : List ℕ). length l ≤ limit)
+    (sym (taken_since o n o.to_come p.4.taken)) p.4.in_limit
 
-not_too_long : (limit k s : ℕ) → k ≤ limit → s ≢ 6 → (s ≡ 6) ↔ (k ≡ limit + 1)
+-- ---- what is said of each end
+
+-- too long is the end exactly if one byte more than the limit was taken
+abbrev pub IsLong : ℕ → End → Told → Told → Type 0
+IsLong limit end o n = (status_of end ≡ 6) ↔ (length (since o n) ≡ limit + 1)
+
+-- within the limit the run is done, its input is rejected, or memory ran out
+abbrev pub IsComplete : ℕ → End → Told → Told → Type 0
+IsComplete limit end o n = length (since o n) ≤ limit
+    → (status_of end ≡ 0) ⊎ (status_of end ≡ 1) ⊎ (status_of end ≡ 5)
+
+-- ---- of a mode that takes its whole input
+
+pub not_too_long : (limit k s : ℕ) → k ≤ limit → s ≢ 6 → (s ≡ 6) ↔ (k ≡ limit + 1)
 not_too_long limit k s few other = (λ e. absurd (other e), λ e. absurd (omega (arith, e, few)))
 
--- too long is the end exactly where one byte more than the limit was taken
-pub input_too_long : (Answers : TextOf) (limit : ℕ) (x y : Option Told) (answer : Result Bool Stop) → AnswersInput Answers x y limit answer
-    → Both x y (λ o n. (status_of (end_of_answer answer) ≡ 6) ↔ (length (since o n) ≡ limit + 1))
-input_too_long Answers limit x y (Ok true) told = Both-weaker x y _ _ (λ o n p. not_too_long limit _ 0 (all_since Answers true limit o n p) (λ e. omega (arith, e))) told
-input_too_long Answers limit x y (Ok false) told = Both-weaker x y _ _ (λ o n p. not_too_long limit _ 1 (all_since Answers false limit o n p) (λ e. omega (arith, e))) told
-input_too_long Answers limit x y (Err ReadFault) told = Both-weaker x y _ _ (λ o n p. not_too_long limit _ 3 (few_since limit o n p) (λ e. omega (arith, e))) told
-input_too_long Answers limit x y (Err WriteFault) told = Both-weaker x y _ _ (λ o n p. not_too_long limit _ 4 (part_since Answers limit o n p) (λ e. omega (arith, e))) told
-input_too_long Answers limit x y (Err Memory) told = Both-weaker x y _ _ (λ o n p. not_too_long limit _ 5 (few_since limit o n p) (λ e. omega (arith, e))) told
-input_too_long Answers limit x y (Err TooLong) told = Both-weaker x y _ _ (λ o n p. (λ e. subst (λ (l : List ℕ). length l ≡ limit + 1) (sym (taken_since o n p.0 p.2.taken)) p.1, λ e. refl)) told
+pub input_too_long : (Answers : TextOf) (limit : ℕ) (x y : Option Told) (answer : Result Bool Stop)
+    → AnswersInput Answers x y limit answer
+    → Both x y (IsLong limit (end_of_answer answer))
+input_too_long Answers limit x y (Ok true) told
+    = Both-weaker x y _ _
+    (λ o n p. not_too_long limit _ 0 (all_since Answers true limit o n p)
+    (λ e. omega (arith, e))) told
+input_too_long Answers limit x y (Ok false) told
+    = Both-weaker x y _ _
+    (λ o n p. not_too_long limit _ 1 (all_since Answers false limit o n p)
+    (λ e. omega (arith, e))) told
+input_too_long Answers limit x y (Err ReadFault) told
+    = Both-weaker x y _ _
+    (λ o n p. not_too_long limit _ 3 (few_since limit o n p) (λ e. omega (arith, e))) told
+input_too_long Answers limit x y (Err WriteFault) told
+    = Both-weaker x y _ _
+    (λ o n p. not_too_long limit _ 4 (part_since Answers limit o n p) (λ e. omega (arith, e))) told
+input_too_long Answers limit x y (Err Memory) told
+    = Both-weaker x y _ _
+    (λ o n p. not_too_long limit _ 5 (few_since limit o n p) (λ e. omega (arith, e))) told
+input_too_long Answers limit x y (Err TooLong) told
+    = Both-weaker x y _ _
+    (λ o n p. (
+      λ e. subst (λ (l : List ℕ). length l ≡ limit + 1)
+          (sym (taken_since o n p.0 p.2.taken)) p.1,
+      λ e. refl,
+    )) told
 input_too_long Answers limit x y (Err ArchiveFault) told = absurd told
 
--- without a fault and within the limit the mode is done, its input is rejected, or memory ran out
-pub input_complete : (Answers : TextOf) (limit : ℕ) (x y : Option Told) (answer : Result Bool Stop) → AnswersInput Answers x y limit answer
+-- without a fault
+pub input_complete : (Answers : TextOf) (limit : ℕ) (x y : Option Told) (answer : Result Bool Stop)
+    → AnswersInput Answers x y limit answer
     → end_of_answer answer ≢ Stopped ReadFault → end_of_answer answer ≢ Stopped WriteFault
-    → Both x y (λ o n. length (since o n) ≤ limit → (status_of (end_of_answer answer) ≡ 0) ⊎ (status_of (end_of_answer answer) ≡ 1) ⊎ (status_of (end_of_answer answer) ≡ 5))
-input_complete Answers limit x y (Ok true) told r w = Both-weaker x y _ _ (λ o n p few. inl refl) told
-input_complete Answers limit x y (Ok false) told r w = Both-weaker x y _ _ (λ o n p few. inr (inl refl)) told
+    → Both x y (IsComplete limit (end_of_answer answer))
+input_complete Answers limit x y (Ok true) told r w
+    = Both-weaker x y _ _ (λ o n p few. inl refl) told
+input_complete Answers limit x y (Ok false) told r w
+    = Both-weaker x y _ _ (λ o n p few. inr (inl refl)) told
 input_complete Answers limit x y (Err ReadFault) told r w = absurd (r refl)
 input_complete Answers limit x y (Err WriteFault) told r w = absurd (w refl)
-input_complete Answers limit x y (Err Memory) told r w = Both-weaker x y _ _ (λ o n p few. inr (inr refl)) told
-input_complete Answers limit x y (Err TooLong) told r w = Both-weaker x y _ _ (λ o n p few. absurd (omega (arith, subst (λ (l : List ℕ). length l ≤ limit) (taken_since o n p.0 p.2.taken) few, p.1))) told
+input_complete Answers limit x y (Err Memory) told r w
+    = Both-weaker x y _ _ (λ o n p few. inr (inr refl)) told
+input_complete Answers limit x y (Err TooLong) told r w
+    = Both-weaker x y _ _
+    (λ o n p few. absurd (omega (
+      arith,
+      subst (λ (l : List ℕ). length l ≤ limit)
+          (taken_since o n p.0 p.2.taken) few,
+      p.1,
+    ))) told
 input_complete Answers limit x y (Err ArchiveFault) told r w = absurd told
 
 -- such a mode never ends with a usage
@@ -57,5 +110,6 @@ input_no_usage (Ok false) e = absurd (cc)
 input_no_usage (Err stop) e = absurd (cc)
 
 -- before the first read nothing was taken
-pub input_nothing : (Answers : TextOf) (limit : ℕ) (x : Option Told) → AnswersInput Answers x x limit (Err Memory)
+pub input_nothing : (Answers : TextOf) (limit : ℕ) (x : Option Told)
+    → AnswersInput Answers x x limit (Err Memory)
 input_nothing Answers limit x = took_at_most x x [] limit (omega arith) (took_nothing x [] refl)

@@ -26,8 +26,7 @@
 --    `trace_audit::audit` and `hex_solve::solve` below.
 -- 7. The modes that read nothing: hex_devices, specs/Giving.antt and Handing.antt with `give_text`
 --    in src/giving.rt and `hand_over` in src/handing.rt; hex_cli, src/single_turns.rt,
---    proofs/HandedTurns. Their turns and texts are those of `turn_modes::simulation` and
---    `benchmark`, below.
+--    proofs/HandedTurns. Their turns and texts are those of `turn_modes::hand_in`, below.
 -- 8. The status: hex_cli, `play` in src/playing.rt, `serve` in src/serving.rt and `run` in
 --    src/top.rt, by specs/Served.antt, which only private clauses cite (what is done in each mode,
 --    told of the devices); hex_devices, proofs/StatusLaws (each status is that of one end);

@@ -1,5 +1,6 @@
 -- What follows of how a session ended.
-use Rattle.std.proofs.Common.{Ok, Err, ◌≡◌, ◌≢◌, ℕ, ◌+◌, ◌≤◌, ◌⊎◌, length, Option, refl, inl, inr, arith}
+use Rattle.std.proofs.Common.{Ok, Err, ◌≡◌, ◌≢◌, ℕ, ◌+◌, ◌≤◌, ◌⊎◌, length, Option, refl, inl, inr}
+use Rattle.std.proofs.Common.{arith}
 use Rattle.std.specs.Prelude.{◌↔◌}
 use Rattle.hex_io.specs.Told.{Told, Both}
 use Rattle.hex_io.proofs.BothLaws.{Both-weaker}
@@ -8,10 +9,12 @@ use Rattle.hex_engine.specs.Supply.{Supply}
 use Rattle.hex_devices.specs.Devices.{ShelfAndArchive}
 use Rattle.htp_session.specs.Endings.{Conversed, since}
 use Rattle.hex_devices.specs.Devices.{Outcome}
-use Rattle.hex_devices.specs.declared.stops.Stop.TheVariants.{ReadFault, WriteFault, Memory, TooLong, ArchiveFault}
+use Rattle.hex_devices.specs.declared.stops.Stop.TheVariants.{ReadFault, WriteFault, Memory}
+use Rattle.hex_devices.specs.declared.stops.Stop.TheVariants.{TooLong, ArchiveFault}
 use Rattle.hex_devices.specs.Statuses.{end_for, status_of, stop_in}
 use Rattle.hex_devices.specs.Devices.{stop_of}
 use Rattle.hex_devices.specs.declared.ends.End.TheVariants.{Done, Usage, Stopped}
+use Rattle.hex_cli.proofs.InputEnds.{IsComplete, IsLong, not_too_long}
 
 -- a session's end is never that of a usage
 pub outcome_no_usage : (outcome : Outcome) → end_for outcome ≢ Usage
@@ -19,28 +22,42 @@ outcome_no_usage (Ok done) e = absurd (cc)
 outcome_no_usage (Err stop) e = absurd (cc)
 
 -- without a fault and within the limit a session is done, or memory ran out
-pub session_complete : (outcome : Outcome) (options : Options) (size limit : ℕ) (used : Supply) (a b : ShelfAndArchive) (x y : Option Told) → Conversed outcome options size limit used a b x y
-    → end_for outcome ≢ Stopped ReadFault → end_for outcome ≢ Stopped WriteFault → end_for outcome ≢ Stopped ArchiveFault
-    → Both x y (λ o n. length (since o n) ≤ limit → (status_of (end_for outcome) ≡ 0) ⊎ (status_of (end_for outcome) ≡ 1) ⊎ (status_of (end_for outcome) ≡ 5))
-session_complete (Ok done) options size limit used a b x y told r w v = Both-weaker x y _ _ (λ o n p few. inl refl) told.outcome
+pub session_complete : (outcome : Outcome) (options : Options) (size limit : ℕ) (used : Supply)
+    (a b : ShelfAndArchive) (x y : Option Told) → Conversed outcome options size limit used a b x y
+    → end_for outcome ≢ Stopped ReadFault → end_for outcome ≢ Stopped WriteFault
+    → end_for outcome ≢ Stopped ArchiveFault
+    → Both x y (IsComplete limit (end_for outcome))
+session_complete (Ok done) options size limit used a b x y told r w v
+    = Both-weaker x y _ _ (λ o n p few. inl refl) told.outcome
 session_complete (Err ReadFault) options size limit used a b x y told r w v = absurd (r refl)
 session_complete (Err WriteFault) options size limit used a b x y told r w v = absurd (w refl)
-session_complete (Err Memory) options size limit used a b x y told r w v = Both-weaker x y _ _ (λ o n p few. inr (inr refl)) told.outcome
+session_complete (Err Memory) options size limit used a b x y told r w v
+    = Both-weaker x y _ _ (λ o n p few. inr (inr refl)) told.outcome
 session_complete (Err ArchiveFault) options size limit used a b x y told r w v = absurd (v refl)
-session_complete (Err TooLong) options size limit used a b x y told r w v = Both-weaker x y _ _ (λ o n p few. absurd (omega (arith, p.ends.many, few))) told.outcome
+session_complete (Err TooLong) options size limit used a b x y told r w v
+    = Both-weaker x y _ _ (λ o n p few. absurd (omega (arith, p.ends.many, few))) told.outcome
 
-within : (limit k s : ℕ) → k ≤ limit → s ≢ 6 → (s ≡ 6) ↔ (k ≡ limit + 1)
-within limit k s few other = (λ e. absurd (other e), λ e. absurd (omega (arith, few, e)))
-
--- too long is the end exactly where one byte more than the limit was taken
-pub session_too_long : (outcome : Outcome) (options : Options) (size limit : ℕ) (used : Supply) (a b : ShelfAndArchive) (x y : Option Told) → Conversed outcome options size limit used a b x y
-    → Both x y (λ o n. (status_of (end_for outcome) ≡ 6) ↔ (length (since o n) ≡ limit + 1))
-session_too_long (Ok done) options size limit used a b x y told = Both-weaker x y _ _ (λ o n p. within limit _ 0 p.ends.in_limit (λ e. omega (arith, e))) told.outcome
-session_too_long (Err ReadFault) options size limit used a b x y told = Both-weaker x y _ _ (λ o n p. within limit _ 3 p.ends.in_limit (λ e. omega (arith, e))) told.outcome
-session_too_long (Err WriteFault) options size limit used a b x y told = Both-weaker x y _ _ (λ o n p. within limit _ 4 p.ends.in_limit (λ e. omega (arith, e))) told.outcome
-session_too_long (Err Memory) options size limit used a b x y told = Both-weaker x y _ _ (λ o n p. within limit _ 5 p.ends.in_limit (λ e. omega (arith, e))) told.outcome
-session_too_long (Err ArchiveFault) options size limit used a b x y told = Both-weaker x y _ _ (λ o n p. within limit _ 7 p.ends.in_limit (λ e. omega (arith, e))) told.outcome
-session_too_long (Err TooLong) options size limit used a b x y told = Both-weaker x y _ _ (λ o n p. (λ e. p.ends.many, λ e. refl)) told.outcome
+-- too long is the end exactly if one byte more than the limit was taken
+pub session_too_long : (outcome : Outcome) (options : Options) (size limit : ℕ) (used : Supply)
+    (a b : ShelfAndArchive) (x y : Option Told) → Conversed outcome options size limit used a b x y
+    → Both x y (IsLong limit (end_for outcome))
+session_too_long (Ok done) options size limit used a b x y told
+    = Both-weaker x y _ _
+    (λ o n p. not_too_long limit _ 0 p.ends.in_limit (λ e. omega (arith, e))) told.outcome
+session_too_long (Err ReadFault) options size limit used a b x y told
+    = Both-weaker x y _ _
+    (λ o n p. not_too_long limit _ 3 p.ends.in_limit (λ e. omega (arith, e))) told.outcome
+session_too_long (Err WriteFault) options size limit used a b x y told
+    = Both-weaker x y _ _
+    (λ o n p. not_too_long limit _ 4 p.ends.in_limit (λ e. omega (arith, e))) told.outcome
+session_too_long (Err Memory) options size limit used a b x y told
+    = Both-weaker x y _ _
+    (λ o n p. not_too_long limit _ 5 p.ends.in_limit (λ e. omega (arith, e))) told.outcome
+session_too_long (Err ArchiveFault) options size limit used a b x y told
+    = Both-weaker x y _ _
+    (λ o n p. not_too_long limit _ 7 p.ends.in_limit (λ e. omega (arith, e))) told.outcome
+session_too_long (Err TooLong) options size limit used a b x y told
+    = Both-weaker x y _ _ (λ o n p. (λ e. p.ends.many, λ e. refl)) told.outcome
 
 -- why a session stopped is why its run did
 pub stop_in_end : (outcome : Outcome) → stop_in (end_for outcome) ≡ stop_of outcome

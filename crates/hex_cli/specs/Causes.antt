@@ -13,7 +13,7 @@ use Rattle.hex_devices.specs.declared.ends.End.TheVariants.{Done, Rejected}
 use Rattle.hex_cli.specs.Runs.{RunData}
 use Rattle.hex_cli.specs.declared.limits.TheConstants.{INPUT_LIMIT}
 
--- with well-formed words the input is too long exactly where one byte more than the limit was taken
+-- with well-formed words the input is too long exactly if one byte more than the limit was taken
 abbrev pub IsTooLong : RunData → Type 0
 IsTooLong run = (options : Options) → WellFormed run.words options
     → Both run.before.link run.after.link (λ old new.
@@ -25,7 +25,7 @@ pub record MetNoFault (old new : DevicesState) : Type 0 where
   pub writes : ¬ Rose old.write_faults new.write_faults
   pub archives : ¬ Rose old.archive_faults new.archive_faults
 
--- with well-formed words, where no count of faults rose and at most the limit was taken, the run is
+-- with well-formed words, if no count of faults rose and at most the limit was taken, the run is
 -- done, its input is rejected, or memory ran out
 abbrev pub Completes : RunData → Type 0
 Completes run = (options : Options) → WellFormed run.words options

@@ -27,7 +27,7 @@ IsDetermined options size shelf shelf_now old new =
     → IsThrough (talk (opening options size) all (lines (since old new)))
     → new.given ≡ old.given ++ (talk (opening options size) all (lines (since old new))).text
 
--- Mode htp: the same where the session is done.
+-- Mode htp: the same if the session is done.
 abbrev pub Determines : words.Options → End → DevicesState → DevicesState → Type 0
 Determines options end before after = end ≡ Done
     → Both before.shelf after.shelf (λ shelf shelf_now. Both before.link after.link

@@ -27,7 +27,7 @@ use Rattle.hex_devices.specs.Devices.{DevicesState}
 use Rattle.hex_devices.specs.declared.ends.End.{End}
 use Rattle.hex_devices.specs.declared.ends.End.TheVariants.{Done}
 
--- Where the turn's plan is a win, its cell wins against every reply. Where it is a search, the turn
+-- If the turn's plan is a win, its cell wins against every reply. If it is a search, the turn
 -- has a tree, which was searched for it and is closed: the cell is the least of the root's children
 -- of most visits, and with one worker the tree is that of Seq.
 abbrev pub WinsOrIsBest : Knobs → TurnData → Plan → Type 0
@@ -61,7 +61,7 @@ AreGeneratedMoves start all lines =
     → IsGeneratedMove start.options all.turns (talk start all before)
     (talk start all (before ++ raw ∷ []))
 
--- Mode htp: where the session is done, each of its lines that took a turn was answered by a
+-- Mode htp: if the session is done, each of its lines that took a turn was answered by a
 -- generated move.
 abbrev pub HasHeadline : words.Options → End → DevicesState → DevicesState → Type 0
 HasHeadline options end before after = end ≡ Done → (used : Supply)

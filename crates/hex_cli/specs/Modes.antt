@@ -1,6 +1,9 @@
 -- What a run does in each of its modes, to its end, told of what its devices tell before and after.
 use Rattle.std.specs.Prelude.{◌≡◌, ℕ, Bool, List, Result}
 use Rattle.hexd_args.specs.declared.settings.Options.{Options}
+use Rattle.hexd_args.specs.declared.settings.Mode.{Mode}
+use Rattle.hexd_args.specs.declared.settings.Mode.TheVariants.{Htp, Check, Migrate, Audit}
+use Rattle.hexd_args.specs.declared.settings.Mode.TheVariants.{Sim, Bench, Solve}
 use Rattle.hex_plan.specs.Turns.{TurnData}
 use Rattle.hex_engine.specs.Supply.{Supply}
 use Rattle.hex_engine.specs.declared.options.Options as engine
@@ -10,9 +13,13 @@ use Rattle.hex_devices.specs.Devices.{link_and_archive, shelf_and_archive}
 use Rattle.hex_devices.specs.Inputs.{AnswersInput, TextOf}
 use Rattle.hex_devices.specs.declared.stops.Stop.{Stop}
 use Rattle.turn_modes.specs.HandingIn.{HandsIn}
+use Rattle.turn_modes.specs.declared.modes.TurnMode.TheVariants as turn
 use Rattle.turn_modes.specs.declared.options.ModeOptions.{ModeOptions}
 use Rattle.hex_devices.specs.Statuses.{end_for, end_of_answer}
 use Rattle.hex_devices.specs.declared.ends.End.{End}
+use Rattle.hex_cli.specs.declared.kinds.ModeKind.{ModeKind}
+use Rattle.hex_cli.specs.declared.kinds.ModeKind.TheVariants.{Session, WholeInput, OneTurn}
+use Rattle.hex_cli.specs.declared.whole_inputs.InputMode.TheVariants as input
 use Rattle.hex_cli.specs.declared.limits.TheConstants.{INPUT_LIMIT}
 
 -- ---- what the words' options say
@@ -25,7 +32,19 @@ engine_options o = record { knobs = o.knobs; hsearch = o.hsearch }
 abbrev pub mode_options : Options → ModeOptions
 mode_options o = record { size = o.size; knobs = o.knobs; steps = o.steps }
 
--- ---- one relation for each kind of mode
+-- ---- the kinds of mode
+
+-- a session, one that takes its whole input, or one that hands in one turn
+abbrev pub kind_of : Mode → Options → ModeKind
+kind_of Htp options = Session
+kind_of Check options = WholeInput input.Check
+kind_of Migrate options = WholeInput input.Migrate
+kind_of Audit options = WholeInput input.Audit
+kind_of Sim options = OneTurn turn.Sim
+kind_of Bench options = OneTurn turn.Bench
+kind_of Solve options = WholeInput (input.Solve options.hsearch options.budget)
+
+-- ---- one relation for each kind
 
 -- Mode htp: a session of these options used up just this, and came to this end.
 abbrev pub PlaysBy : Supply → Options → End → DevicesState → DevicesState → Type 0

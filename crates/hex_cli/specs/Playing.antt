@@ -18,7 +18,7 @@ abbrev pub HasGoodTurns : Options → End → DevicesState → DevicesState → 
 HasGoodTurns options end before after = (used : Supply) × PlaysBy used options end before after
     × AreGood (engine_options options) used.turns
 
--- each move outside the carrier of one of the turn's threats loses, and where its plan says that
+-- each move outside the carrier of one of the turn's threats loses, and if its plan says that
 -- the board is lost each move does
 pub record HasTrueThreats (turn : TurnData) : Type 0 where
   pub outside : LosesOutsideCarriers turn.board turn.player turn.planned.plan

@@ -2,45 +2,34 @@
 use Rattle.std.specs.Prelude.{ℕ, List}
 use Rattle.hexd_args.specs.Reading.{WellFormed}
 use Rattle.hexd_args.specs.declared.settings.Options.{Options}
-use Rattle.hexd_args.specs.declared.settings.Mode.{Mode}
-use Rattle.hexd_args.specs.declared.settings.Mode.TheVariants.{Htp, Check, Migrate, Audit}
-use Rattle.hexd_args.specs.declared.settings.Mode.TheVariants.{Sim, Bench, Solve}
-use Rattle.turn_modes.specs.OneTurn.{IsBenchmark, IsSimulation}
+use Rattle.turn_modes.specs.HandingIn.{IsTurnOf}
 use Rattle.hex_devices.specs.Devices.{DevicesState}
-use Rattle.hex_cli.specs.AuditTexts.{IsAuditText}
-use Rattle.hex_cli.specs.SolveTexts.{IsSolveText}
-use Rattle.hex_cli.specs.CertTexts.{IsCheckText, IsMigrateText}
-use Rattle.hex_cli.specs.Modes.{AnswersBy, HandsInBy}
+use Rattle.hex_cli.specs.Modes.{AnswersBy, HandsInBy, kind_of}
 use Rattle.hex_cli.specs.Playing.{HasGoodTurns}
 use Rattle.hex_cli.specs.Runs.{IsUnarchived, IsUnfetched}
+use Rattle.hex_cli.specs.WholeInputs.{IsTextOf}
+use Rattle.hex_cli.specs.declared.kinds.ModeKind.{ModeKind}
+use Rattle.hex_cli.specs.declared.kinds.ModeKind.TheVariants.{Session, WholeInput, OneTurn}
 use Rattle.hex_devices.specs.declared.ends.End.{End}
 
--- what was done in this mode, to this end
-abbrev pub ServesIn : Mode → Options → End → DevicesState → DevicesState → Type 0
-ServesIn Htp options = HasGoodTurns options
-ServesIn Check options = AnswersBy IsCheckText
-ServesIn Migrate options = AnswersBy IsMigrateText
-ServesIn Audit options = AnswersBy IsAuditText
-ServesIn Sim options = HandsInBy IsSimulation options
-ServesIn Bench options = HandsInBy IsBenchmark options
-ServesIn Solve options = AnswersBy (IsSolveText options.hsearch options.budget)
+-- what was done in a mode of this kind, to this end
+abbrev pub ServesBy : ModeKind → Options → End → DevicesState → DevicesState → Type 0
+ServesBy Session options = HasGoodTurns options
+ServesBy (WholeInput mode) options = AnswersBy (IsTextOf mode)
+ServesBy (OneTurn mode) options = HandsInBy (IsTurnOf mode) options
 
--- which devices stood idle in this mode
-abbrev pub StandsIdleIn : Mode → DevicesState → DevicesState → Type 0
-StandsIdleIn Htp old new = Unit {0}
-StandsIdleIn Check old new = IsUnfetched old new × IsUnarchived old new
-StandsIdleIn Migrate old new = IsUnfetched old new × IsUnarchived old new
-StandsIdleIn Audit old new = IsUnfetched old new × IsUnarchived old new
-StandsIdleIn Sim old new = IsUnfetched old new
-StandsIdleIn Bench old new = IsUnfetched old new
-StandsIdleIn Solve old new = IsUnfetched old new × IsUnarchived old new
+-- which devices were idle in a mode of this kind
+abbrev pub IsIdleBy : ModeKind → DevicesState → DevicesState → Type 0
+IsIdleBy Session old new = Unit {0}
+IsIdleBy (WholeInput mode) old new = IsUnfetched old new × IsUnarchived old new
+IsIdleBy (OneTurn mode) old new = IsUnfetched old new
 
 -- what was done for the words, in the mode that they say
 abbrev pub Serves : List (List ℕ) → End → DevicesState → DevicesState → Type 0
 Serves words end old new = (options : Options) → WellFormed words options
-    → ServesIn options.mode options end old new
+    → ServesBy (kind_of options.mode options) options end old new
 
--- which devices stood idle in the mode that the words say
+-- which devices were idle in the mode that the words say
 abbrev pub LeavesIdle : List (List ℕ) → DevicesState → DevicesState → Type 0
-LeavesIdle words old new =
-    (options : Options) → WellFormed words options → StandsIdleIn options.mode old new
+LeavesIdle words old new = (options : Options) → WellFormed words options
+    → IsIdleBy (kind_of options.mode options) old new

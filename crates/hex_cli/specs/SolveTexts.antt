@@ -36,7 +36,7 @@ solved_text (TooLong winner lines) =
     codes "too long " ++ (colour_word winner ++ (codes " " ++ (decimal lines ++ codes "\n")))
 solved_text (Open full) = codes "open\n"
 
--- an answer whose certificate, where it has one, can be written; private clauses alone cite it
+-- an answer whose certificate, if it has one, can be written; private clauses alone cite it
 abbrev pub CanBeWritten : Solved → Type 0
 CanBeWritten (Won winner cert) = IsWritable cert
 CanBeWritten (Unknown spent own) = Unit {0}
@@ -47,7 +47,7 @@ CanBeWritten (Open full) = Unit {0}
 -- with `mover` to place. Who is told to win does, whatever the other does. His certificate shows
 -- it, and without connections it has at most two lines for each position that the search needs; or
 -- it would have more lines than one may have, at most two for each of these positions, and then
--- more cells are empty than a few. Where nobody is told to win, the budget is spent, and the search
+-- more cells are empty than a few. If nobody is told to win, the budget is spent, and the search
 -- needs more; or a full board keeps the stones of p, and nobody is joined on it.
 abbrev pub IsSolved : Bool → ℕ → Position → Colour → Solved → Type 0
 IsSolved hsearch budget p mover (Won winner cert) = Wins winner p mover

@@ -43,7 +43,7 @@
 //!
 //! **What is only tested, or not said.** That memory suffices: a run may always end with status 5,
 //! which no clause ties to a refused growth; and a quiet answer that is dropped then can't be told
-//! from memory that ran out earlier. That a run which met a fault reads and writes no more, where
+//! from memory that ran out earlier. That a run which met a fault reads and writes no more, if
 //! it answers that fault's status all the same. That workers run side by side, which two gates
 //! show. How fast it is.
 //!
@@ -53,8 +53,9 @@
 //!
 //! **Why so.**
 //!
-//! - What is done in a mode is one relation by mode, behind private clauses; `run` has a clause for
-//!   each mode, and two on what is not used.
+//! - There are three kinds of mode (`ModeKind`). What is done, and what isn't used, is one relation
+//!   by kind, behind private clauses; `run` has a clause for each mode, and two on what isn't used.
+//!   So a mode has one line that says its kind, and what follows of its kind is proved once.
 //! - The clauses of the modes speak of one record, the words, the status and what the devices hold
 //!   before and after (`RunData`), and `InMode` says once for which words and which end: so a mode
 //!   is one relation that can be read aloud.
@@ -74,6 +75,7 @@
 
 mod audits;
 mod certificates;
+mod kinds;
 mod limits;
 mod numbers;
 mod playing;

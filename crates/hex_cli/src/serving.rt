@@ -6,18 +6,20 @@ ghost use Rattle.hexd_args.specs.Values as value;
 ghost use Rattle.hexd_args.specs.declared.settings.Options.{Options};
 ghost use Rattle.hex_devices.specs.declared.stops.Stop.TheVariants.{Memory};
 ghost use Rattle.hex_devices.specs.Devices.{CountsStop};
+ghost use Rattle.hex_cli.specs.Modes.{kind_of};
 ghost use Rattle.hex_cli.specs.Runs.{AreRefused};
-ghost use Rattle.hex_cli.specs.Served.{LeavesIdle, Serves, ServesIn, StandsIdleIn};
+ghost use Rattle.hex_cli.specs.Served.{IsIdleBy, LeavesIdle, Serves, ServesBy};
 ghost use Rattle.hex_devices.specs.Statuses.{stop_in};
 ghost use Rattle.hex_devices.specs.declared.ends.End.TheVariants.{Stopped};
 
+use crate::kinds::ModeKind;
 use crate::playing::play;
-use crate::single_turns::{bench, simulate};
-use crate::whole_inputs::{InputMode, serve_input};
+use crate::single_turns::serve_turn;
+use crate::whole_inputs::serve_input;
 use hex_devices::{Devices, End, Stop};
 use hex_io::{Link, Shelf, Word};
 use hex_plan::Archive;
-use hexd_args::{Mode, Options, read_words};
+use hexd_args::{Options, read_words};
 use search_team::Gate;
 use std::alloc::Global;
 use std::thread::Threads;
@@ -53,24 +55,14 @@ fn in_mode<L: Link, F: Shelf, A: Archive, R: Threads + Sync, G: Gate + Sync>(
     devices: &mut Devices<'_, '_, '_, '_, L, F, A, R, G>,
 ) -> End
     requires ranges { value.OptionsInRange options.now }
-    ensures does { ServesIn options.now.mode options.now result
+    ensures does { ServesBy (kind_of options.now.mode options.now) options.now result
         devices.old devices.new }
-    ensures idle { StandsIdleIn options.now.mode devices.old devices.new }
+    ensures idle { IsIdleBy (kind_of options.now.mode options.now) devices.old devices.new }
     ensures counts { CountsStop devices.old devices.new (stop_in result) }
 {
-    match options.mode {
-        Mode::Htp => play(alloc, options, devices),
-        Mode::Check => serve_input(alloc, InputMode::Check, devices),
-        Mode::Migrate => serve_input(alloc, InputMode::Migrate, devices),
-        Mode::Audit => serve_input(alloc, InputMode::Audit, devices),
-        Mode::Sim => simulate(alloc, options, devices),
-        Mode::Bench => bench(alloc, options, devices),
-        Mode::Solve => {
-            let solver = InputMode::Solve {
-                hsearch: options.hsearch,
-                budget: options.budget,
-            };
-            serve_input(alloc, solver, devices)
-        }
+    match ModeKind::of(options) {
+        ModeKind::Session => play(alloc, options, devices),
+        ModeKind::WholeInput(mode) => serve_input(alloc, mode, devices),
+        ModeKind::OneTurn(mode) => serve_turn(alloc, mode, options, devices),
     }
 }

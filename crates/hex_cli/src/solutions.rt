@@ -65,7 +65,7 @@ fn next_to_place(steps: &[Step]) -> Colour
     }
 }
 
-// The line where a player is joined already.
+// The line of a board on which a player is joined already.
 fn over_text(alloc: Global, winner: Colour) -> Result<Vec<u8>, AllocError>
     ensures { IfOk result (λ text. text.items
         ≡ codes "over " ++ (colour_word winner ++ codes "\n")) }

@@ -48,23 +48,23 @@ use std::thread::Threads;
 /// |---|---|---|
 /// | 0 | what the mode does was done; in `htp` to the input's end, or to an answered `quit` | |
 /// | 1 | the whole input was answered, and it is not accepted; only in modes that take it whole | |
-/// | 2 | exactly where the words are not well formed | `hexd: usage` |
-/// | 3 | only where a read failed | `hexd: read fault` |
-/// | 4 | only where a write failed | |
+/// | 2 | exactly if the words are not well formed | `hexd: usage` |
+/// | 3 | only if a read failed | `hexd: read fault` |
+/// | 4 | only if a write failed | |
 /// | 5 | memory ran out | `hexd: out of memory` |
-/// | 6 | exactly where one byte more than the limit was taken | `hexd: input too long` |
-/// | 7 | only where the archive failed | `hexd: archive fault` |
+/// | 6 | exactly if one byte more than the limit was taken | `hexd: input too long` |
+/// | 7 | only if the archive failed | `hexd: archive fault` |
 ///
-/// The limit is [`INPUT_LIMIT`](crate::INPUT_LIMIT). Where a session of `htp` stopped early, it had
+/// The limit is [`INPUT_LIMIT`](crate::INPUT_LIMIT). If a session of `htp` stopped early, it had
 /// given
 ///
 /// - with 3, the answers to all whole lines taken;
-/// - with 4, a front of the answers;
+/// - with 4, a prefix of the answers;
 /// - with 5, the answers to the first lines, which used up all that was used up;
 /// - with 6, the answers to the whole lines up to the limit;
 /// - with 7, the answers to all lines before the `genmove` whose turn the archive didn't take.
 ///
-/// Each other mode had then given a front of its text with 4, and nothing with 3, 5, 6 and 7.
+/// Each other mode had then given a prefix of its text with 4, and nothing with 3, 5, 6 and 7.
 ///
 /// What fails first ends the run: the link's count of read faults rose with 3, its count of write
 /// faults with 4 and the archive's count of faults with 7, and each is as before with every other
@@ -81,17 +81,17 @@ pub fn run<R: Threads + Sync, L: Link, E: Link, F: Shelf, A: Archive, G: Gate + 
     // The link, the shelf and the archive are those that were handed in.
     ensures names { devices.new.names ≡ devices.old.names }
 
-    // The words. Want of memory may come in place of a refusal.
+    // The words. Out of memory may come in place of a refusal.
     ensures usage { result ≡ status_of End.Usage → AreRefused words.now }
     ensures well_formed { IsServed result → (options : Options) × WellFormed words.now options }
     ensures refused { AreRefused words.now → IsRefusal result }
     ensures untouched { AreRefused words.now → devices.new ≡ devices.old }
 
-    // Mode htp: what was taken and given, and when, where the link tells it, and what was used up
-    // from the shelf and for the archive. Then, where the run is done, each generated move. At
-    // every status, that each turn used up is good, and what it says of threats is true. And, where
-    // the run is done, that one worker who looks for no connections gives what the words, the input
-    // and the shelf determine.
+    // Mode htp: what was taken and given, and when, if the link tells it, and what was used up
+    // from the shelf and for the archive. Then, if the run is done, each generated move. At every
+    // status, that each turn used up is good, and what it says of threats is true. And, if the run
+    // is done, that one worker who looks for no connections gives what the words, the input and the
+    // shelf determine.
     ensures conversed { InMode Htp HasPlayed (seen words.now result devices.old devices.new) }
     ensures headline { InMode Htp HasHeadline (seen words.now result devices.old devices.new) }
     ensures good_turns { InMode Htp HasGoodTurns (seen words.now result devices.old devices.new) }

@@ -10,10 +10,14 @@ use Rattle.hex_cli.proofs.playing.play.Goals as goal
 
 pub returns-clause-plays : goal.returns-clause-plays
 returns-clause-plays g c =
-    let held = conversed_same c.converse-outcome.result c.engine_options.result (engine_options c.args.options.now) c.board_size.result c.args.options.now.size INPUT_LIMIT _ _ _ _
+    let held = conversed_same c.converse-outcome.result c.engine_options.result
+    (engine_options c.args.options.now) c.board_size.result c.args.options.now.size INPUT_LIMIT _ _
+    _ _
     c.engine_options.ensures.value c.board_size.ensures c.converse-outcome.ensures.converses in
     (held.0, (c.converse-outcome.result, c.of.ensures, held.1), held.2)
 
 pub returns-clause-counts : goal.returns-clause-counts
 returns-clause-counts g c =
-    subst (CountsStop c.args.devices.now c.converse-outcome.new.devices) (sym (ap stop_in c.of.ensures ∙ stop_in_end c.converse-outcome.result)) c.converse-outcome.ensures.counts
+    subst (CountsStop c.args.devices.now c.converse-outcome.new.devices)
+    (sym (ap stop_in c.of.ensures ∙ stop_in_end c.converse-outcome.result))
+    c.converse-outcome.ensures.counts

@@ -8,16 +8,25 @@ use Rattle.hex_cli.proofs.solutions.game_text.Goals as goal
 
 pub returns-in-Some : goal.returns-in-Some
 returns-in-Some c =
-    IfOk-weaker c.over_text.result _ _ (λ text e. inl (c.in-Some.winner, sym (ap winner_of c.board-board.ensures) ∙ sym c.in-Some.ensures.value, e)) c.over_text.ensures
+    IfOk-weaker c.over_text.result _ _
+    (λ text e. inl (
+      c.in-Some.winner,
+      sym (ap winner_of c.board-board.ensures)
+          ∙ sym c.in-Some.ensures.value,
+      e,
+    )) c.over_text.ensures
 
 pub returns : goal.returns
 returns c =
     IfOk-weaker c.text_of.result _ _ (λ text e. inr (
       c.in-Ok.solved,
       sym (ap winner_of c.board-board.ensures) ∙ sym c.in_default.ensures.value,
-      solved_of_game c.args.hsearch c.args.budget c.args.game.now c.board-board.result.now c.next_to_place-mover.result c.in-Ok.solved
+      solved_of_game c.args.hsearch c.args.budget c.args.game.now c.board-board.result.now
+          c.next_to_place-mover.result c.in-Ok.solved
           c.board-board.ensures (c.next_to_place-mover.ensures ∙ ap next_mover c.steps.ensures)
-          (solved_by c.args.hsearch c.args.budget c.board-board.result.now c.next_to_place-mover.result c.in-Ok.solved
-          c.in-Ok.ensures.wins c.in-Ok.ensures.won c.in-Ok.ensures.short c.in-Ok.ensures.unknown c.in-Ok.ensures.too_long c.in-Ok.ensures.open),
+          (solved_by c.args.hsearch c.args.budget c.board-board.result.now
+          c.next_to_place-mover.result c.in-Ok.solved
+          c.in-Ok.ensures.wins c.in-Ok.ensures.won c.in-Ok.ensures.short c.in-Ok.ensures.unknown
+          c.in-Ok.ensures.too_long c.in-Ok.ensures.open),
       e,
     )) c.text_of.ensures
