@@ -1,5 +1,6 @@
 -- Sums over the numbers below n.
-use Rattle.std.proofs.Common.{◌≡◌, ◌≢◌, ℕ, zero, suc, ◌+◌, ◌≤◌, ◌<◌, Bool, true, false, cond, List, [], ◌∷◌, refl, ap, ⊎_elim, arith}
+use Rattle.std.proofs.Common.{◌≡◌, ◌≢◌, ℕ, zero, suc, ◌+◌, ◌≤◌, ◌<◌, Bool, true, false, cond, List}
+use Rattle.std.proofs.Common.{[], ◌∷◌, refl, ap, ⊎_elim, arith}
 use Rattle.std.specs.Prelude.{◌==◌, sum_by}
 use Rattle.std.proofs.lemmas.List.Sums.{sum_by-cons}
 use Rattle.std.proofs.lemmas.Bool.Decides.{nat_tests}
@@ -9,9 +10,11 @@ abbrev pub sum_below : ℕ → (ℕ → ℕ) → ℕ
 sum_below zero f = 0
 sum_below (suc n) f = sum_below n f + f n
 
-pub below_same : (n : ℕ) (f g : ℕ → ℕ) → ((j : ℕ) → j < n → f j ≡ g j) → sum_below n f ≡ sum_below n g
+pub below_same : (n : ℕ) (f g : ℕ → ℕ) → ((j : ℕ) → j < n → f j ≡ g j)
+    → sum_below n f ≡ sum_below n g
 below_same zero f g h = refl
-below_same (suc n) f g h = omega (arith, below_same n f g (λ j l. h j (omega arith)), h n (omega arith))
+below_same (suc n) f g h
+    = omega (arith, below_same n f g (λ j l. h j (omega arith)), h n (omega arith))
 
 pub below_add : (n : ℕ) (f g : ℕ → ℕ) → sum_below n (λ j. f j + g j) ≡ sum_below n f + sum_below n g
 below_add zero f g = refl
@@ -30,7 +33,8 @@ missed a n c ne = ap (λ (t : Bool). cond t c 0) (ne_eqb a n ne)
 
 pub below_past : (n a c : ℕ) → n ≤ a → sum_below n (λ j. cond (a == j) c 0) ≡ 0
 below_past zero a c h = refl
-below_past (suc n) a c h = omega (arith, below_past n a c (omega arith), missed a n c (λ e. omega (arith, e)))
+below_past (suc n) a c h
+    = omega (arith, below_past n a c (omega arith), missed a n c (λ e. omega (arith, e)))
 
 -- one number has all
 pub below_hit : (n a c : ℕ) → a < n → sum_below n (λ j. cond (a == j) c 0) ≡ c
@@ -45,12 +49,14 @@ below_hit (suc n) a c h = ⊎_elim
 
 module _ {A : Type 0} where
   -- the two sums change places
-  pub below_swap : (n : ℕ) (F : ℕ → A → ℕ) (l : List A) → sum_below n (λ j. sum_by (F j) l) ≡ sum_by (λ v. sum_below n (λ j. F j v)) l
+  pub below_swap : (n : ℕ) (F : ℕ → A → ℕ) (l : List A)
+      → sum_below n (λ j. sum_by (F j) l) ≡ sum_by (λ v. sum_below n (λ j. F j v)) l
   below_swap n F [] = below_none n
   below_swap n F (x ∷ xs) =
       omega (
         arith,
-        below_same n (λ j. sum_by (F j) (x ∷ xs)) (λ j. F j x + sum_by (F j) xs) (λ j _. sum_by-cons (F j) x xs),
+        below_same n (λ j. sum_by (F j) (x ∷ xs)) (λ j. F j x + sum_by (F j) xs)
+            (λ j _. sum_by-cons (F j) x xs),
         below_add n (λ j. F j x) (λ j. sum_by (F j) xs),
         below_swap n F xs,
         sum_by-cons (λ v. sum_below n (λ j. F j v)) x xs,

@@ -1,15 +1,19 @@
 -- What a step leaves of a view, part by part.
-use Rattle.std.proofs.Common.{◌≡◌, ◌⊎◌, ℕ, ◌+◌, ◌<◌, ◌≤◌, Bool, true, false, cond, [], set, Some, refl, ap, inl, inr}
+use Rattle.std.proofs.Common.{◌≡◌, ◌⊎◌, ℕ, ◌+◌, ◌<◌, ◌≤◌, Bool, true, false, cond, [], set, Some}
+use Rattle.std.proofs.Common.{refl, ap, inl, inr}
 use Rattle.std.specs.Prelude.{nat_lt, nat_le, option_map}
 use Rattle.std.proofs.lemmas.Bool.{ltb-true, ltb-false, leb-true, leb-false}
 use Rattle.tree_words.specs.Words.{end_of}
 use Rattle.tree_words.specs.declared.steps.Op.{Op}
-use Rattle.tree_words.specs.declared.steps.Op.TheVariants.{Draw, Look, Claim, Write, Publish, Add, Note, Done}
+use Rattle.tree_words.specs.declared.steps.Op.TheVariants.{Draw, Look, Claim, Write, Publish, Add}
+use Rattle.tree_words.specs.declared.steps.Op.TheVariants.{Note, Done}
 use Rattle.arena_rule.specs.Views.{SeatView}
-use Rattle.arena_rule.specs.Afters.{word_of, put, answer_of, drew, looked, claimed_at, wrote, published, added_at, noted, with_word, after}
+use Rattle.arena_rule.specs.Afters.{word_of, put, answer_of, drew, looked, claimed_at, wrote}
+use Rattle.arena_rule.specs.Afters.{published, added_at, noted, with_word, after}
 
 -- a Draw gives a number below N, or ends the worker
-pub drew_cases : (v : SeatView) (x : ℕ) → ((x < v.shape.knobs.playouts) × (drew v x ≡ record v { ticket = Some x })) ⊎ ((v.shape.knobs.playouts ≤ x) × (drew v x ≡ record v { ended = 1 }))
+pub drew_cases : (v : SeatView) (x : ℕ)
+    → ((x < v.shape.knobs.playouts) × (drew v x ≡ record v { ticket = Some x })) ⊎ ((v.shape.knobs.playouts ≤ x) × (drew v x ≡ record v { ended = 1 }))
 unfolding drew
 drew_cases v x = by (nat_lt x v.shape.knobs.playouts) refl
   where
@@ -35,7 +39,8 @@ claimed_cases v size x = by (nat_le (x + size) (end_of v.shape)) refl
 
 -- a part that no Draw and no Claim reads
 module _ {A : Type 0} (f : SeatView → A) where
-  pub drew_same : (v : SeatView) (x : ℕ) → f (record v { ticket = Some x }) ≡ f v → f (record v { ended = 1 }) ≡ f v → f (drew v x) ≡ f v
+  pub drew_same : (v : SeatView) (x : ℕ) → f (record v { ticket = Some x }) ≡ f v
+      → f (record v { ended = 1 }) ≡ f v → f (drew v x) ≡ f v
   unfolding drew
   drew_same v x a c = by (nat_lt x v.shape.knobs.playouts)
     where
@@ -43,12 +48,14 @@ module _ {A : Type 0} (f : SeatView → A) where
       by true = a
       by false = c
 
-  pub claimed_same : (v : SeatView) (size x : ℕ) → f (record v { held = Some (record { start = x; size = size; written = [] }); claimed = v.claimed + size }) ≡ f v → f (record v { full = true }) ≡ f v
+  pub claimed_same : (v : SeatView) (size x : ℕ)
+      → f (record v { held = Some (record { start = x; size = size; written = [] }); claimed = v.claimed + size }) ≡ f v → f (record v { full = true }) ≡ f v
       → f (claimed_at v size x) ≡ f v
   unfolding claimed_at
   claimed_same v size x a c = by (nat_le (x + size) (end_of v.shape))
     where
-      by : (t : Bool) → f (cond t (record v { held = Some (record { start = x; size = size; written = [] }); claimed = v.claimed + size }) (record v { full = true })) ≡ f v
+      by : (t : Bool)
+          → f (cond t (record v { held = Some (record { start = x; size = size; written = [] }); claimed = v.claimed + size }) (record v { full = true })) ≡ f v
       by true = a
       by false = c
 
@@ -74,11 +81,15 @@ width-after v (Add i won) x = refl
 width-after v (Note k value) x = refl
 width-after v Done x = refl
 
-pub whole-after : (v : SeatView) (op : Op) (x : ℕ) → (after v op x).whole ≡ option_map (λ ws. set ws (word_of op) (put op x)) v.whole
+pub whole-after : (v : SeatView) (op : Op) (x : ℕ)
+    → (after v op x).whole ≡ option_map (λ ws. set ws (word_of op) (put op x)) v.whole
 unfolding with_word looked wrote published added_at noted
-whole-after v Draw x = ap (option_map (λ ws. set ws (word_of Draw) (put Draw x))) (drew_same (λ u. u.whole) v x refl refl)
+whole-after v Draw x = ap (option_map (λ ws. set ws (word_of Draw) (put Draw x)))
+    (drew_same (λ u. u.whole) v x refl refl)
 whole-after v (Look i) x = refl
-whole-after v (Claim size) x = ap (option_map (λ ws. set ws (word_of (Claim size)) (put (Claim size) x))) (claimed_same (λ u. u.whole) v size x refl refl)
+whole-after v (Claim size) x
+    = ap (option_map (λ ws. set ws (word_of (Claim size)) (put (Claim size) x)))
+    (claimed_same (λ u. u.whole) v size x refl refl)
 whole-after v (Write i value) x = refl
 whole-after v (Publish l b) x = refl
 whole-after v (Add i won) x = refl

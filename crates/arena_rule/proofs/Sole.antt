@@ -1,5 +1,6 @@
 -- Each step keeps Sole.
-use Rattle.std.proofs.Common.{◌≡◌, ◌≢◌, ℕ, List, set, Option, Some, None, refl, sym, ap, ◌∙◌, ⊎_elim, arith}
+use Rattle.std.proofs.Common.{◌≡◌, ◌≢◌, ℕ, List, set, Option, Some, None, refl, sym, ap, ◌∙◌}
+use Rattle.std.proofs.Common.{⊎_elim, arith}
 use Rattle.std.specs.Prelude.{option_map, slice_index}
 use mathlib.Core.Option.{some}
 use lib.ListN.{get_elem?}
@@ -17,22 +18,29 @@ use Rattle.arena_rule.proofs.Options.{none-some, some-eq}
 use Rattle.arena_rule.proofs.Before.{Before, Other, AreFirst}
 use Rattle.arena_rule.proofs.Changes.{whole-after, put-answered}
 
-module _ (bs : List LinkedBlock) (words : List ℕ) (views : List SeatView) (id : ℕ) (v : SeatView) (b : Before bs words views id v) where
+module _ (bs : List LinkedBlock) (words : List ℕ) (views : List SeatView) (id : ℕ) (v : SeatView)
+    (b : Before bs words views id v) where
   -- only the seat that steps can have a copy of the words
-  mine : (i : ℕ) (u : SeatView) (copy : List ℕ) → i ≢ id → get_elem? views i ≡ some u → u.whole ≡ Some copy → ⊥
-  mine i u copy ne e w = let zero : v.width ≡ 0 = (b.state.sole i u copy e w).1 id v b.at (λ q. ne (sym q)) in omega (arith, zero, b.live)
+  mine : (i : ℕ) (u : SeatView) (copy : List ℕ) → i ≢ id → get_elem? views i ≡ some u
+      → u.whole ≡ Some copy → ⊥
+  mine i u copy ne e w = let zero : v.width ≡ 0 = (b.state.sole i u copy e w).1 id v b.at
+      (λ q. ne (sym q)) in omega (arith, zero, b.live)
 
   -- the seat's copy gets the new value of the word
-  kept : (u : SeatView) (i w n : ℕ) (copy : List ℕ) (o : Option (List ℕ)) → v.whole ≡ o → option_map (λ ws. set ws w n) o ≡ Some copy → i ≡ id
-      → (set words w n ≡ copy) × ((j : ℕ) (other : SeatView) → get_elem? (set views id u) j ≡ some other → j ≢ i → other.width ≡ 0)
+  kept : (u : SeatView) (i w n : ℕ) (copy : List ℕ) (o : Option (List ℕ)) → v.whole ≡ o
+      → option_map (λ ws. set ws w n) o ≡ Some copy → i ≡ id
+      → (set words w n ≡ copy)
+      × ((j : ℕ) (other : SeatView) → get_elem? (set views id u) j ≡ some other → j ≢ i → other.width ≡ 0)
   kept u i w n copy None q m here = absurd (none-some m)
   kept u i w n copy (Some old) q m here =
       let was = b.state.sole id v old b.at q in (
         ap (λ (ws : List ℕ). set ws w n) was.0 ∙ some-eq m,
-        λ j other f ne. was.1 j other (sym (set_else views id j u (λ z. ne (z ∙ sym here))) ∙ f) (λ z. ne (z ∙ sym here)),
+        λ j other f ne. was.1 j other (sym (set_else views id j u (λ z. ne (z ∙ sym here))) ∙ f)
+            (λ z. ne (z ∙ sym here)),
       )
 
-  pub sole-step : (op : Op) → FitsStep v op → Sole (words_after words op) (views_after words views id v op)
+  pub sole-step : (op : Op) → FitsStep v op
+      → Sole (words_after words op) (views_after words views id v op)
   sole-step op fits i u copy e w =
       let x : ℕ = slice_index words (word_of op) in
       let next : SeatView = after v op (answer_of op x) in
@@ -54,7 +62,8 @@ module _ (bs : List LinkedBlock) (words : List ℕ) (views : List SeatView) (id 
       (λ (t : given_part v part ≡ u). absurd (none-some (ap (λ (z : SeatView). z.whole) t ∙ w)))
       (at_snoc (set views id (kept_part v part)) (given_part v part) u i e)
 
-  pub sole-join : (other : ℕ) (w : SeatView) → Other views id v other w → Sole words (views_joined views id v other w)
+  pub sole-join : (other : ℕ) (w : SeatView) → Other views id v other w
+      → Sole words (views_joined views id v other w)
   unfolding joined
   sole-join other w o i u copy e m = ⊎_elim
       (λ (t : (i ≡ other) × (spent_view v.shape ≡ u)). absurd (none-some (ap (λ (z : SeatView). z.whole) t.1 ∙ m)))
@@ -64,5 +73,6 @@ module _ (bs : List LinkedBlock) (words : List ℕ) (views : List SeatView) (id 
       (at_set views id i (joined v w) u t.1))
       (at_set (set views id (joined v w)) other i (spent_view v.shape) u e)
 
-pub sole-first : (s : Setting) (views : List SeatView) → IsSetting s → AreFirst s views → Sole (opening_words s) views
+pub sole-first : (s : Setting) (views : List SeatView) → IsSetting s → AreFirst s views
+    → Sole (opening_words s) views
 sole-first s views setting first = first.sole

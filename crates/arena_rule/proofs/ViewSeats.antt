@@ -1,5 +1,6 @@
 -- A split and a join keep a view in order.
-use Rattle.std.proofs.Common.{◌≡◌, ℕ, Bool, true, false, cond, List, [], ◌∷◌, ◌++◌, refl, sym, ap, ◌∙◌, subst, ⊎_elim, inl, inr, arith}
+use Rattle.std.proofs.Common.{◌≡◌, ℕ, Bool, true, false, cond, List, [], ◌∷◌, ◌++◌, refl, sym, ap}
+use Rattle.std.proofs.Common.{◌∙◌, subst, ⊎_elim, inl, inr, arith}
 use Rattle.std.specs.Prelude.{◌==◌}
 use Rattle.tree_words.specs.Settings.{Setting}
 use Rattle.tree_words.specs.Words.{root_at}
@@ -46,14 +47,20 @@ module _ (v : SeatView) (iv : IsView v) where
 -- what is gathered at a node of some known blocks is gathered there over more blocks behind them
 module _ (s : Setting) (ls : List LinkedBlock) (told : AreTold s ls) where
   -- no block of told ones has the root
-  root-out : (ls : List LinkedBlock) → AreTold s ls → {A : Type 0} (root : A) (step : LinkedBlock → ℕ → A → A) → up root step ls (root_at s) ≡ root
+  root-out : (ls : List LinkedBlock) → AreTold s ls
+      → {A : Type 0} (root : A) (step : LinkedBlock → ℕ → A → A) → up root step ls (root_at s) ≡ root
   root-out [] t root step = refl
   root-out (b ∷ ls) t root step =
-      let out : has_node b (root_at s) ≡ false = false_from_ne_true (has_node b (root_at s)) (λ h. let q = has-at b (root_at s) h in let low = t.0.inside.0 in omega (arith, q.2, low)) in
+      let out : has_node b (root_at s) ≡ false
+      = false_from_ne_true (has_node b (root_at s))
+      (λ h. let q = has-at b (root_at s) h in let low = t.0.inside.0 in omega (arith, q.2, low)) in
       ap (λ (c : Bool). cond c (step b (root_at s) (up root step ls b.parent)) (up root step ls (root_at s))) out ∙ root-out ls t.1 root step
 
-  behind-up : {A : Type 0} (root : A) (step : LinkedBlock → ℕ → A → A) (ks : List LinkedBlock) (x : ℕ) → AreTold s ks → is_node (root_at s) ks x ≡ true → up root step (ks ++ ls) x ≡ up root step ks x
-  behind-up root step [] x t n = ap (up root step ls) (eqb-true x (root_at s) n) ∙ root-out ls told root step
+  behind-up : {A : Type 0} (root : A) (step : LinkedBlock → ℕ → A → A) (ks : List LinkedBlock)
+      (x : ℕ) → AreTold s ks → is_node (root_at s) ks x ≡ true
+      → up root step (ks ++ ls) x ≡ up root step ks x
+  behind-up root step [] x t n = ap (up root step ls) (eqb-true x (root_at s) n)
+      ∙ root-out ls told root step
   behind-up root step (b ∷ ks) x t n = ⊎_elim
       (λ (h : has_node b x ≡ true).
       ap (λ (c : Bool). cond c (step b x (up root step (ks ++ ls) b.parent)) (up root step (ks ++ ls) x)) h
@@ -61,7 +68,8 @@ module _ (s : Setting) (ls : List LinkedBlock) (told : AreTold s ls) where
       ∙ sym (ap (λ (c : Bool). cond c (step b x (up root step ks b.parent)) (up root step ks x)) h))
       (λ (h : has_node b x ≡ false).
       ap (λ (c : Bool). cond c (step b x (up root step (ks ++ ls) b.parent)) (up root step (ks ++ ls) x)) h
-      ∙ behind-up root step ks x t.1 (⊎_elim (λ (u : has_node b x ≡ true). absurd (clash (has_node b x) u h)) (λ (u : is_node (root_at s) ks x ≡ true). u) (or_cases (has_node b x) (is_node (root_at s) ks x) n))
+      ∙ behind-up root step ks x t.1
+      (⊎_elim (λ (u : has_node b x ≡ true). absurd (clash (has_node b x) u h)) (λ (u : is_node (root_at s) ks x ≡ true). u) (or_cases (has_node b x) (is_node (root_at s) ks x) n))
       ∙ sym (ap (λ (c : Bool). cond c (step b x (up root step ks b.parent)) (up root step ks x)) h))
       (cases_Bool (has_node b x))
 
@@ -79,15 +87,18 @@ module _ (s : Setting) (ls : List LinkedBlock) (told : AreTold s ls) where
       )
     where
       block_at : NodeState → ℕ → ℕ → LinkedBlock
-      block_at p x b = record { start = b; parent = x; empties = set_of (empties_of p.board); cells = cond (x == root_at s) (allowed_cells s) (empties_of p.board) }
+      block_at p x b
+          = record { start = b; parent = x; empties = set_of (empties_of p.board); cells = cond (x == root_at s) (allowed_cells s) (empties_of p.board) }
 
 -- a join keeps a view in order
-pub join-stays : (v w : SeatView) → IsView v → IsView w → w.shape ≡ v.shape → CanJoin v w → IsView (joined v w)
+pub join-stays : (v w : SeatView) → IsView v → IsView w → w.shape ≡ v.shape → CanJoin v w
+    → IsView (joined v w)
 unfolding joined
 join-stays v w iv iw same can = record {
   setting = iv.setting;
   width = omega (arith, iv.width);
-  known = told-both v.shape w.known (subst (λ (s : Setting). AreTold s w.known) same iw.known) v.known iv.known;
+  known = told-both v.shape w.known
+      (subst (λ (s : Setting). AreTold s w.known) same iw.known) v.known iv.known;
   order = inl (record { ended = omega (arith, can.left, can.right); more = omega (arith, iv.width, iw.width) });
   ticket = λ k e. absurd (none-some e);
   held = λ h e. absurd (none-some e);

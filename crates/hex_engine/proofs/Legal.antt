@@ -20,13 +20,17 @@ same_board x z h =
     λ i. record { size = eqb-true x.size z.size p.0 i; black = eqb-true x.black z.black q.0 i; white = eqb-true x.white z.white q.1 i }
 
 -- its board is the game's
-pub next_board : (at : EngineState) (colour : Colour) (turn : TurnData) → is_next at colour turn ≡ true → turn.board ≡ board_of at.game
+pub next_board : (at : EngineState) (colour : Colour) (turn : TurnData)
+    → is_next at colour turn ≡ true → turn.board ≡ board_of at.game
 next_board at colour turn next = same_board turn.board (board_of at.game) (and_parts _ _ next).0
 
-pub next_is_legal : (at : EngineState) (colour : Colour) (turn : TurnData) → IsGood at.options.knobs at.options.hsearch turn → is_next at colour turn ≡ true → is_legal at.game (step_of colour (Stone turn.cell)) ≡ true
+pub next_is_legal : (at : EngineState) (colour : Colour) (turn : TurnData)
+    → IsGood at.options.knobs at.options.hsearch turn → is_next at colour turn ≡ true
+    → is_legal at.game (step_of colour (Stone turn.cell)) ≡ true
 next_is_legal at colour turn good next =
     let now : Position = board_of at.game in
     let board : turn.board ≡ now = next_board at colour turn next in
-    let empty : is_empty_at now turn.cell ≡ true = subst (λ (p : Position). is_empty_at p turn.cell ≡ true) board good.empty in
+    let empty : is_empty_at now turn.cell ≡ true
+    = subst (λ (p : Position). is_empty_at p turn.cell ≡ true) board good.empty in
     let going : is_over now ≡ false = ap is_over (sym board) ∙ not_over turn.board good.nobody in
     ap (λ o. not o && is_empty_at now turn.cell) going ∙ empty

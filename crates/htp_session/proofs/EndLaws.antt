@@ -68,7 +68,8 @@ pub feed_quit : (start : EngineState) (all : Supply) (limit : ℕ) (a b c : Opti
     → Quits start all nothing_left (seen ++ piece) → EndsBy (Ok tt) start all limit a c
 feed_quit start all limit a b c seen piece few k r quit =
     Both-weaker a c _ _
-    (λ x y p. end_quit start all limit x y (seen ++ piece) _ few p refl quit.ending (sym quit.left)) (feed_on start all a b c seen piece k r)
+    (λ x y p. end_quit start all limit x y (seen ++ piece) _ few p refl quit.ending (sym quit.left))
+    (feed_on start all a b c seen piece k r)
 
 pub feed_unwritten : (start : EngineState) (all : Supply) (limit : ℕ) (a b c : Option Told)
     (seen piece : List ℕ) → length (seen ++ piece) ≤ limit

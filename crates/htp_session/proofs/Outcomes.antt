@@ -76,14 +76,17 @@ pub by_feed : (options : Options) (size limit : ℕ) (old read new : DevicesStat
 by_feed options size limit old read new session after piece total ReadFault few p f = absurd f
 by_feed options size limit old read new session after piece total WriteFault few p f =
     ends_unwritten options size limit (shelf_and_archive old) (shelf_and_archive read)
-    (shelf_and_archive new) old.link read.link new.link session.engine session.splitter p.seen piece (omega (arith, p.many)) p.took f
+    (shelf_and_archive new) old.link read.link new.link session.engine session.splitter p.seen piece
+    (omega (arith, p.many)) p.took f
 by_feed options size limit old read new session after piece total Memory few p f =
     ends_unfinished options size limit (shelf_and_archive old) (shelf_and_archive read)
-    (shelf_and_archive new) old.link read.link new.link session.engine session.splitter p.seen piece (omega (arith, p.many)) p.took f
+    (shelf_and_archive new) old.link read.link new.link session.engine session.splitter p.seen piece
+    (omega (arith, p.many)) p.took f
 by_feed options size limit old read new session after piece total TooLong few p f = absurd f
 by_feed options size limit old read new session after piece total ArchiveFault few p f =
     ends_unarchived options size limit (shelf_and_archive old) (shelf_and_archive read)
-    (shelf_and_archive new) old.link read.link new.link session.engine session.splitter p.seen piece (omega (arith, p.many)) p.took f
+    (shelf_and_archive new) old.link read.link new.link session.engine session.splitter p.seen piece
+    (omega (arith, p.many)) p.took f
 
 -- quit was answered
 pub by_quit : (options : Options) (size limit : ℕ) (old read new : DevicesState)

@@ -5,12 +5,14 @@ use Rattle.tree_words.specs.Blocks.{LinkedBlock, In, has_node}
 use Rattle.tree_words.specs.Paths.{is_on}
 use Rattle.tree_words.specs.declared.layout.TheConstants.{LINK_WORD, TALLY_WORD}
 use Rattle.tree_words.specs.declared.steps.Op.{Op}
-use Rattle.tree_words.specs.declared.steps.Op.TheVariants.{Draw, Look, Claim, Write, Publish, Add, Note, Done}
+use Rattle.tree_words.specs.declared.steps.Op.TheVariants.{Draw, Look, Claim, Write, Publish, Add}
+use Rattle.tree_words.specs.declared.steps.Op.TheVariants.{Note, Done}
 use Rattle.arena_rule.specs.Views.{SeatView}
 use Rattle.arena_rule.specs.Lookups.{is_known, known_link, empties_at}
 use Rattle.arena_rule.specs.Fits.{IsChosen, MayGetBlock}
 
--- The node x can be the leaf of the walk in hand: x is a known node other than the root, no block is
+-- The node x can be the leaf of the walk in hand: x is a known node other than the root, no block
+-- is
 -- known below it or its board is full, and each node of its path below the root was chosen by the
 -- counts that were loaded.
 pub record IsAtLeaf (v : SeatView) (x : ℕ) : Type 0 where

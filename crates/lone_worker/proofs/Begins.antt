@@ -28,14 +28,16 @@ use Rattle.lone_worker.proofs.Courses.{Lone}
 use Rattle.lone_worker.proofs.Ends.{tree-words}
 
 -- the opening words and the opening view
-pub lone-begins : (s : Setting) → IsSetting s → s.knobs.workers ≡ 1 → Lone s (opening_blocks s) (opening_words s) (opening_view s) 0
+pub lone-begins : (s : Setting) → IsSetting s → s.knobs.workers ≡ 1
+    → Lone s (opening_blocks s) (opening_words s) (opening_view s) 0
 lone-begins s h one =
     let words : List ℕ = opening_words s in
     let v : SeatView = opening_view s in
     let bs : List LinkedBlock = opening_blocks s in
     let state : IsState s bs words (v ∷ []) = state-opening s h in
     let are : AreOpening s words = opening-are s h in
-    let w : Whole (root_at s) bs = record { order = state.linked.blocks.order; filled = state.linked.nodes } in
+    let w : Whole (root_at s) bs
+    = record { order = state.linked.blocks.order; filled = state.linked.nodes } in
     let fine : Fine (root_at s) (config_by s bs [] (next_in words)) = record {
       sprouts = sprouts-of (root_at s) bs w;
       root = root-out (root_at s) bs w.order;
@@ -43,7 +45,8 @@ lone-begins s h one =
       low = omega (arith, state.linked.blocks.complete.0.claimed);
     } in
     let set : are.empties ≡ set_of (empties_of s.board)
-    = same_set are.empties (set_of (empties_of s.board)) (λ i. are.set.items i ∙ sym ((set-has_empties s.board h.position.most).items i)) in
+    = same_set are.empties (set_of (empties_of s.board))
+    (λ i. are.set.items i ∙ sym ((set-has_empties s.board h.position.most).items i)) in
     let tree : (tree_in (root_at s) (config_of bs words), next_in words) ≡ first_tree s
     = subst (λ (n : ℕ). (tree_in (root_at s) (config_of (root_block s n ∷ []) words), next_in words) ≡ first_tree s) set
     (opening-tree s words are.empties h are.set are.long (λ i l d. are.each i l)) in
@@ -68,5 +71,6 @@ lone-begins s h one =
     ticket-none : (s : Setting) → IsSetting s → ticket_in (opening_words s) ≡ 0
     ticket-none s h =
         let v : SeatView = opening_view s in
-        none-below (ticket_in (opening_words s)) s.knobs.playouts (sum_by (times_drawn 0) (v ∷ [])) (sum_by-cons (times_drawn 0) v [])
+        none-below (ticket_in (opening_words s)) s.knobs.playouts (sum_by (times_drawn 0) (v ∷ []))
+        (sum_by-cons (times_drawn 0) v [])
         ((state-opening s h).tickets.once 0) (omega (arith, h.ranges.playouts.0))

@@ -1,5 +1,6 @@
 -- A Draw begins a walk, or ends the worker.
-use Rattle.std.proofs.Common.{◌≡◌, ℕ, ◌+◌, ◌<◌, ◌≤◌, List, [], ◌∷◌, length, set, Option, Some, None, sym, subst, ⊎_elim, inl, arith, get_or-set_same, get_or-set_other}
+use Rattle.std.proofs.Common.{◌≡◌, ℕ, ◌+◌, ◌<◌, ◌≤◌, List, [], ◌∷◌, length, set, Option, Some, None}
+use Rattle.std.proofs.Common.{sym, subst, ⊎_elim, inl, arith, get_or-set_same, get_or-set_other}
 use Rattle.std.proofs.lemmas.List.Sums.{sum_by-cons}
 use Rattle.tree_words.specs.Words.{next_in, ticket_in}
 use Rattle.tree_words.specs.Blocks.{LinkedBlock}
@@ -15,12 +16,14 @@ use Rattle.lone_worker.proofs.States.{later}
 use Rattle.lone_worker.proofs.Courses.{Between, InWalk, Idle, Stands, Course, Lone}
 use Rattle.lone_worker.proofs.Ground.{ground, idle}
 
-module _ (bs : List LinkedBlock) (words : List ℕ) (v : SeatView) (k : ℕ) (l : Lone v.shape bs words v k) where
+module _ (bs : List LinkedBlock) (words : List ℕ) (v : SeatView) (k : ℕ)
+    (l : Lone v.shape bs words v k) where
   abbrev b : Before bs words (v ∷ []) 0 v
   b = ground bs words v k l
 
   -- a Draw begins walk k, or ends the worker
-  pub draw : FitsStep v Draw → Course v.shape bs (words_after words Draw) (later bs words v b Draw) k
+  pub draw : FitsStep v Draw
+      → Course v.shape bs (words_after words Draw) (later bs words v b Draw) k
   unfolding with_word
   draw fits = ⊎_elim
       (λ (t : (x < v.shape.knobs.playouts) × (drew v x ≡ record v { ticket = Some x })). subst course-of (sym t.1) (begun t.0))
@@ -68,8 +71,10 @@ module _ (bs : List LinkedBlock) (words : List ℕ) (v : SeatView) (k : ℕ) (l 
 
       gone : v.shape.knobs.playouts ≤ x → course-of (record v { ended = 1 })
       gone high =
-          let most : x ≤ v.shape.knobs.playouts = omega (arith, l.state.widths.ticket, sum_by-cons ended_of v [], fits.ended) in
-          let stands : Idle v.shape bs v.walks (next_in after_words) (ticket_in after_words) k 1 = record { between = between; going = λ e. absurd (omega (arith, e)); gone = λ e. omega (arith, here, high, most) } in
+          let most : x ≤ v.shape.knobs.playouts
+          = omega (arith, l.state.widths.ticket, sum_by-cons ended_of v [], fits.ended) in
+          let stands : Idle v.shape bs v.walks (next_in after_words) (ticket_in after_words) k 1
+          = record { between = between; going = λ e. absurd (omega (arith, e)); gone = λ e. omega (arith, here, high, most) } in
           record {
             width = l.course.width;
             known = l.course.known;

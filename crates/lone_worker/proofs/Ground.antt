@@ -1,5 +1,6 @@
 -- What each step of one worker rests on.
-use Rattle.std.proofs.Common.{◌≡◌, ℕ, ◌<◌, true, List, [], ◌∷◌, Option, None, refl, sym, subst, arith}
+use Rattle.std.proofs.Common.{◌≡◌, ℕ, ◌<◌, true, List, [], ◌∷◌, Option, None, refl, sym, subst}
+use Rattle.std.proofs.Common.{arith}
 use Rattle.std.specs.Prelude.{slice_index}
 use Rattle.tree_words.specs.Words.{root_at, next_in, ticket_in}
 use Rattle.tree_words.specs.Blocks.{LinkedBlock, is_node}
@@ -13,16 +14,22 @@ use Rattle.arena_rule.proofs.Reach.{IsHigh, low-same}
 use Rattle.arena_rule.proofs.Within.{known-node}
 use Rattle.lone_worker.proofs.Courses.{Stands, Lone}
 
-module _ (bs : List LinkedBlock) (words : List ℕ) (v : SeatView) (k : ℕ) (l : Lone v.shape bs words v k) where
+module _ (bs : List LinkedBlock) (words : List ℕ) (v : SeatView) (k : ℕ)
+    (l : Lone v.shape bs words v k) where
   pub ground : Before bs words (v ∷ []) 0 v
   ground = record { state = l.state; at = refl; live = omega (arith, l.course.width) }
 
   -- a step that changes neither NEXT nor TICKET
-  pub kept : (op : Op) → IsHigh op → FitsStep v op → (cs : List LinkedBlock) (ended : ℕ) (ticket : Option ℕ) (adds : Option Flight) (held : Option HeldBlock)
+  pub kept : (op : Op) → IsHigh op → FitsStep v op
+      → (cs : List LinkedBlock) (ended : ℕ) (ticket : Option ℕ) (adds : Option Flight)
+      (held : Option HeldBlock)
       → Stands v.shape cs v.walks (next_in words) (ticket_in words) k ended ticket adds held
-      → Stands v.shape cs v.walks (next_in (words_after words op)) (ticket_in (words_after words op)) k ended ticket adds held
+      → Stands v.shape cs v.walks (next_in (words_after words op))
+      (ticket_in (words_after words op)) k ended ticket adds held
   kept op high fits cs ended ticket adds held st =
-      let low : (j : ℕ) → j < root_at v.shape → slice_index (words_after words op) j ≡ slice_index words j = low-same bs words (v ∷ []) 0 v ground op high fits in
+      let low : (j : ℕ) → j < root_at v.shape
+      → slice_index (words_after words op) j ≡ slice_index words j
+      = low-same bs words (v ∷ []) 0 v ground op high fits in
       let next : next_in (words_after words op) ≡ next_in words = low 0 (omega arith) in
       let drawn : ticket_in (words_after words op) ≡ ticket_in words = low 1 (omega arith) in
       subst (λ (t : ℕ). Stands v.shape cs v.walks (next_in (words_after words op)) t k ended ticket adds held) (sym drawn)

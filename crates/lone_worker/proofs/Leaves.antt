@@ -1,5 +1,6 @@
 -- What the leaf of a walk comes to: it asks for no block, asks in vain, or gets its block.
-use Rattle.std.proofs.Common.{◌≡◌, ◌⊎◌, ℕ, ◌+◌, ◌<◌, ◌≤◌, true, false, List, ◌∷◌, length, refl, sym, ap, ◌∙◌, ⊎_elim, inl, inr, arith}
+use Rattle.std.proofs.Common.{◌≡◌, ◌⊎◌, ℕ, ◌+◌, ◌<◌, ◌≤◌, true, false, List, ◌∷◌, length, refl, sym}
+use Rattle.std.proofs.Common.{ap, ◌∙◌, ⊎_elim, inl, inr, arith}
 use Rattle.std.specs.Prelude.{◌&&◌, nat_le, nat_lt, Contains}
 use Rattle.std.proofs.lemmas.Bool.Decides.{nat_tests}
 use Rattle.play_out.specs.Fills.{empties_of}
@@ -17,16 +18,23 @@ use Rattle.arena_rule.specs.Parts.{amount_recorded}
 use Rattle.lone_worker.proofs.Counts.{tally_by, seen_by, config_by, recorded-linked, recorded-new}
 use Rattle.lone_worker.proofs.Courses.{Between, AtEnd, Holding}
 
--- a leaf with enough visits and an empty cell asks for a block, while NEXT is at most the area's end
-pub asks-then : (s : Setting) (next : ℕ) (v : Count) (p : NodeState) → s.knobs.expand ≤ v.visits → 0 < length (empties_of p.board) → next ≤ end_of s → asks s next v p ≡ true
-asks-then s next v p few some room = all s.knobs.expand v.visits (length (empties_of p.board)) next (end_of s) few some room
+-- a leaf with enough visits and an empty cell asks for a block, while NEXT is at most the area's
+-- end
+pub asks-then : (s : Setting) (next : ℕ) (v : Count) (p : NodeState) → s.knobs.expand ≤ v.visits
+    → 0 < length (empties_of p.board) → next ≤ end_of s → asks s next v p ≡ true
+asks-then s next v p few some room = all s.knobs.expand v.visits (length (empties_of p.board)) next
+    (end_of s) few some room
   where
-    all : (a b c d e : ℕ) → a ≤ b → 0 < c → d ≤ e → (nat_le a b && (nat_lt 0 c && nat_le d e)) ≡ true
+    all : (a b c d e : ℕ) → a ≤ b → 0 < c → d ≤ e
+        → (nat_le a b && (nat_lt 0 c && nat_le d e)) ≡ true
     all a b c d e l m n = grind (arith, nat_tests)
 
 -- and else it asks for none
-pub asks-none : (s : Setting) (next : ℕ) (v : Count) (p : NodeState) → (v.visits < s.knobs.expand) ⊎ ((length (empties_of p.board) ≡ 0) ⊎ (end_of s < next)) → asks s next v p ≡ false
-asks-none s next v p why = by s.knobs.expand v.visits (length (empties_of p.board)) next (end_of s) why
+pub asks-none : (s : Setting) (next : ℕ) (v : Count) (p : NodeState)
+    → (v.visits < s.knobs.expand) ⊎ ((length (empties_of p.board) ≡ 0) ⊎ (end_of s < next))
+    → asks s next v p ≡ false
+asks-none s next v p why = by s.knobs.expand v.visits (length (empties_of p.board)) next
+    (end_of s) why
   where
     few : (a b c d e : ℕ) → b < a → (nat_le a b && (nat_lt 0 c && nat_le d e)) ≡ false
     few a b c d e l = grind (arith, nat_tests)
@@ -37,10 +45,14 @@ asks-none s next v p why = by s.knobs.expand v.visits (length (empties_of p.boar
     past : (a b c d e : ℕ) → e < d → (nat_le a b && (nat_lt 0 c && nat_le d e)) ≡ false
     past a b c d e l = grind (arith, nat_tests)
 
-    by : (a b c d e : ℕ) → (b < a) ⊎ ((c ≡ 0) ⊎ (e < d)) → (nat_le a b && (nat_lt 0 c && nat_le d e)) ≡ false
-    by a b c d e h = ⊎_elim (λ (l : b < a). few a b c d e l) (λ (m : (c ≡ 0) ⊎ (e < d)). ⊎_elim (λ (z : c ≡ 0). none a b c d e z) (λ (z : e < d). past a b c d e z) m) h
+    by : (a b c d e : ℕ) → (b < a) ⊎ ((c ≡ 0) ⊎ (e < d))
+        → (nat_le a b && (nat_lt 0 c && nat_le d e)) ≡ false
+    by a b c d e h
+        = ⊎_elim (λ (l : b < a). few a b c d e l)
+        (λ (m : (c ≡ 0) ⊎ (e < d)). ⊎_elim (λ (z : c ≡ 0). none a b c d e z) (λ (z : e < d). past a b c d e z) m) h
 
-module _ (s : Setting) (bs : List LinkedBlock) (ws : List Walked) (next k : ℕ) (b : Between s bs ws next k) (v : Count) (p : NodeState)
+module _ (s : Setting) (bs : List LinkedBlock) (ws : List Walked) (next k : ℕ)
+    (b : Between s bs ws next k) (v : Count) (p : NodeState)
     (end : walk_end (search_game s) (root_state s) (root_at s) (config_by s bs ws next) ≡ (v, p)) where
   -- the leaf asks for no block
   pub rests : asks s next v p ≡ false → AtEnd s bs ws next k
@@ -57,7 +69,8 @@ module _ (s : Setting) (bs : List LinkedBlock) (ws : List Walked) (next k : ℕ)
   }
 
   -- it asks in vain
-  pub asks-vain : asks s next v p ≡ true → end_of s < next + size_below p → AtEnd s bs ws (next + size_below p) k
+  pub asks-vain : asks s next v p ≡ true → end_of s < next + size_below p
+      → AtEnd s bs ws (next + size_below p) k
   asks-vain a l = record {
     first = config_by s bs ws next;
     fine = b.fine;
@@ -71,21 +84,31 @@ module _ (s : Setting) (bs : List LinkedBlock) (ws : List Walked) (next k : ℕ)
   }
 
 -- it gets the block n, which was held
-module _ (s : Setting) (bs : List LinkedBlock) (ws : List Walked) (next k : ℕ) (whole : Whole (root_at s) bs)
+module _ (s : Setting) (bs : List LinkedBlock) (ws : List Walked) (next k : ℕ)
+    (whole : Whole (root_at s) bs)
     (leaves : (q : Walked) → Contains ws q → is_node (root_at s) bs (leaf_in q.value) ≡ true)
-    (h : HeldBlock) (b : Holding s bs ws next k h) (n : LinkedBlock) (f : Follows (root_at s) n bs) where
-  pub gets : walk_end (search_game s) (root_state s) (root_at s) (config_by s bs ws h.start) ≡ (tally_by s bs ws n.parent, node_state s bs n.parent)
-      → n.parent ≡ leaf_at (search_game s) (tally_by s bs ws) (seen_by s bs ws) (oldest_first bs) (root_at s) → n.start ≡ h.start → n.cells ≡ empties_of (node_board s bs n.parent)
-      → h.size ≡ size n → 0 < length n.cells → s.knobs.expand ≤ (tally_by s bs ws n.parent).visits → AtEnd s (n ∷ bs) ws next k
+    (h : HeldBlock) (b : Holding s bs ws next k h) (n : LinkedBlock)
+    (f : Follows (root_at s) n bs) where
+  pub gets : walk_end (search_game s) (root_state s) (root_at s)
+      (config_by s bs ws h.start) ≡ (tally_by s bs ws n.parent, node_state s bs n.parent)
+      → n.parent ≡ leaf_at (search_game s) (tally_by s bs ws) (seen_by s bs ws) (oldest_first bs)
+      (root_at s) → n.start ≡ h.start → n.cells ≡ empties_of (node_board s bs n.parent)
+      → h.size ≡ size n → 0 < length n.cells → s.knobs.expand ≤ (tally_by s bs ws n.parent).visits
+      → AtEnd s (n ∷ bs) ws next k
   gets end parent start cells fits some visits =
       let v : Count = tally_by s bs ws n.parent in
       let p : NodeState = node_state s bs n.parent in
       let many : length n.cells ≡ length (empties_of p.board) = ap length cells in
-      let a : asks s h.start v p ≡ true = asks-then s h.start v p visits (omega (arith, some, many)) (omega (arith, b.inside)) in
+      let a : asks s h.start v p ≡ true = asks-then s h.start v p visits (omega (arith, some, many))
+      (omega (arith, b.inside)) in
       let big : h.size ≡ size_below p = omega (arith, fits, many) in
-      let wide : gets_block s h.start v p ≡ true = gets-made s h.start v p a (omega (arith, big, b.inside)) in
-      let same : (w : ℕ) → count_in (amount_recorded s (n ∷ bs) w ws) ≡ count_in (amount_recorded s bs w ws) = λ w. ap count_in (recorded-linked s bs whole.order n f ws leaves w) in
-      let new : NewBlock (search_game s) (root_state s) (root_at s) (config_by s bs ws h.start) (config_by s (n ∷ bs) ws next) n = record {
+      let wide : gets_block s h.start v p ≡ true
+      = gets-made s h.start v p a (omega (arith, big, b.inside)) in
+      let same : (w : ℕ) → count_in (amount_recorded s (n ∷ bs) w ws) ≡ count_in
+      (amount_recorded s bs w ws)
+      = λ w. ap count_in (recorded-linked s bs whole.order n f ws leaves w) in
+      let new : NewBlock (search_game s) (root_state s) (root_at s) (config_by s bs ws h.start)
+      (config_by s (n ∷ bs) ws next) n = record {
         wide = ap (λ (z : Count × NodeState). gets_block s h.start z.0 z.1) end ∙ wide;
         blocks = refl;
         parent = parent;
@@ -100,7 +123,8 @@ module _ (s : Setting) (bs : List LinkedBlock) (ws : List Walked) (next k : ℕ)
         fine = b.between.fine;
         tree = b.between.tree;
         widened = record {
-          next = b.past ∙ sym (ap (λ (z : Count × NodeState). next_after s h.start z.0 z.1) end ∙ next-asked s h.start v p a ∙ omega (arith, big));
+          next = b.past
+              ∙ sym (ap (λ (z : Count × NodeState). next_after s h.start z.0 z.1) end ∙ next-asked s h.start v p a ∙ omega (arith, big));
           block = inl (n, new);
           tally = λ w t. same (w + 2);
           seen = λ w t d. same (w + 3);

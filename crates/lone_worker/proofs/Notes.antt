@@ -1,5 +1,6 @@
 -- A Note ends the walk.
-use Rattle.std.proofs.Common.{◌≡◌, ℕ, suc, ◌+◌, ◌≤◌, List, [], ◌∷◌, length, set, Option, Some, refl, sym, ap, ◌∙◌, subst, arith, get_or-set_other}
+use Rattle.std.proofs.Common.{◌≡◌, ℕ, suc, ◌+◌, ◌≤◌, List, [], ◌∷◌, length, set, Option, Some, refl}
+use Rattle.std.proofs.Common.{sym, ap, ◌∙◌, subst, arith, get_or-set_other}
 use Rattle.std.proofs.lemmas.List.Sums.{sum_by-cons}
 use Rattle.tree_words.specs.Words.{next_in, ticket_in, leaf_in}
 use Rattle.tree_words.specs.Blocks.{LinkedBlock}
@@ -19,7 +20,8 @@ use Rattle.lone_worker.proofs.Courses.{Between, Walking, Stands, Course, Lone}
 use Rattle.lone_worker.proofs.Walked.{walked}
 use Rattle.lone_worker.proofs.Ground.{ground}
 
-module _ (bs : List LinkedBlock) (words : List ℕ) (v : SeatView) (k : ℕ) (l : Lone v.shape bs words v k) where
+module _ (bs : List LinkedBlock) (words : List ℕ) (v : SeatView) (k : ℕ)
+    (l : Lone v.shape bs words v k) where
   abbrev next : ℕ
   next = next_in words
 
@@ -27,7 +29,9 @@ module _ (bs : List LinkedBlock) (words : List ℕ) (v : SeatView) (k : ℕ) (l 
   b = ground bs words v k l
 
   -- a Note ends the walk
-  pub note : (n value : ℕ) → FitsStep v (Note n value) → Course v.shape bs (words_after words (Note n value)) (later bs words v b (Note n value)) (suc k)
+  pub note : (n value : ℕ) → FitsStep v (Note n value)
+      → Course v.shape bs (words_after words (Note n value))
+      (later bs words v b (Note n value)) (suc k)
   unfolding with_word noted
   note n value fits = record {
     width = l.course.width;
@@ -57,10 +61,13 @@ module _ (bs : List LinkedBlock) (words : List ℕ) (v : SeatView) (k : ℕ) (l 
       drawn = get_or-set_other words (2 + n) 1 value 0 (λ e. omega arith)
 
       leaf-is : leaf_in value ≡ fits.flight.leaf
-      leaf-is = ap leaf_in fits.value ∙ leaf-recorded fits.flight.leaf (outcome_of v.shape n (node_state v.shape v.known fits.flight.leaf)).winner
+      leaf-is = ap leaf_in fits.value
+          ∙ leaf-recorded fits.flight.leaf
+          (outcome_of v.shape n (node_state v.shape v.known fits.flight.leaf)).winner
 
       few-walks : length v.walks ≤ 1000000
       few-walks = omega (arith, few bs words (v ∷ []) 0 v b, sum_by-cons walks_of v [], l.state.setting.ranges.playouts.1)
 
       more : Between v.shape bs (q ∷ v.walks) next (suc k)
-      more = walked v.shape bs (whole bs words v b) v.walks few-walks k fits.flight.leaf before.walk.at q before.number leaf-is next before.walk.end
+      more = walked v.shape bs
+          (whole bs words v b) v.walks few-walks k fits.flight.leaf before.walk.at q before.number leaf-is next before.walk.end

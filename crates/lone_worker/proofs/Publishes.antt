@@ -1,5 +1,6 @@
 -- A Publish of one worker finds 0, and links the block that was claimed below the leaf of the walk.
-use Rattle.std.proofs.Common.{◌≡◌, ℕ, ◌+◌, ◌<◌, ◌≤◌, Bool, true, cond, List, [], ◌∷◌, length, Option, Some, None, refl, sym, ap, ◌∙◌, subst, inl, inr, arith}
+use Rattle.std.proofs.Common.{◌≡◌, ℕ, ◌+◌, ◌<◌, ◌≤◌, Bool, true, cond, List, [], ◌∷◌, length}
+use Rattle.std.proofs.Common.{Option, Some, None, refl, sym, ap, ◌∙◌, subst, inl, inr, arith}
 use Rattle.std.specs.Prelude.{◌==◌, slice_index, Contains}
 use Rattle.std.proofs.lemmas.Bool.{eq-eqb, ne_eqb}
 use Rattle.play_out.specs.Fills.{empties_of}
@@ -26,7 +27,8 @@ use Rattle.lone_worker.proofs.Ground.{ground, kept, node-of}
 use Rattle.lone_worker.proofs.LeafCounts.{leaf-tally, leaf-empties}
 use Rattle.arena_rule.proofs.Room.{told-known}
 
-module _ (bs : List LinkedBlock) (words : List ℕ) (v : SeatView) (k : ℕ) (l : Lone v.shape bs words v k)
+module _ (bs : List LinkedBlock) (words : List ℕ) (v : SeatView) (k : ℕ)
+    (l : Lone v.shape bs words v k)
     (w c : ℕ) (fits : FitsPublish v w c) (at : StepsAtLeaf v (Publish w c)) where
   abbrev next : ℕ
   next = next_in words
@@ -64,7 +66,8 @@ module _ (bs : List LinkedBlock) (words : List ℕ) (v : SeatView) (k : ℕ) (l 
   vacant =
       let m : is_node (root_at v.shape) bs x ≡ true = node-of bs words v k l x stand.known in
       let link : x + LINK_WORD ≡ w = let q = fits.link in omega (arith, q, its) in
-      ap (slice_index words) (sym link) ∙ l.state.linked.blocks.shows.links x m ∙ ap (λ (ks : List LinkedBlock). link_of ks x) (sym all) ∙ may.vacant
+      ap (slice_index words) (sym link) ∙ l.state.linked.blocks.shows.links x m
+      ∙ ap (λ (ks : List LinkedBlock). link_of ks x) (sym all) ∙ may.vacant
 
   found : (slice_index words w == 0) ≡ true
   found = eq-eqb (slice_index words w) 0 vacant
@@ -73,7 +76,8 @@ module _ (bs : List LinkedBlock) (words : List ℕ) (v : SeatView) (k : ℕ) (l 
   pub linked : blocks_after bs words v (Publish w c) ≡ n ∷ bs
   linked = ap (λ (t : Bool). cond t (n ∷ bs) bs) found
 
-  pub state : IsState v.shape (n ∷ bs) (words_after words (Publish w c)) (later bs words v b (Publish w c) ∷ [])
+  pub state : IsState v.shape (n ∷ bs) (words_after words (Publish w c))
+      (later bs words v b (Publish w c) ∷ [])
   state = subst (λ (cs : List LinkedBlock). IsState v.shape cs (words_after words (Publish w c)) (later bs words v b (Publish w c) ∷ [])) linked (state-later bs words v b (Publish w c) fits)
 
   follows : Follows (root_at v.shape) n bs
@@ -82,7 +86,8 @@ module _ (bs : List LinkedBlock) (words : List ℕ) (v : SeatView) (k : ℕ) (l 
   -- and known
   knows : known_after v x (cond (slice_index words w == 0) c (slice_index words w)) ≡ n ∷ bs
   knows = ap (λ (t : Bool). known_after v x (cond t c (slice_index words w))) found
-      ∙ told-known v x c stand.known may.vacant (λ e. omega (arith, above, e)) ∙ ap (λ (ks : List LinkedBlock). n ∷ ks) all
+      ∙ told-known v x c stand.known may.vacant (λ e. omega (arith, above, e))
+      ∙ ap (λ (ks : List LinkedBlock). n ∷ ks) all
 
   -- no adds are begun
   none : v.adds ≡ None
@@ -102,10 +107,12 @@ module _ (bs : List LinkedBlock) (words : List ℕ) (v : SeatView) (k : ℕ) (l 
   -- while the block is held the walk stands at the leaf; then it is at its end
   end : Holding v.shape bs v.walks next k fits.block → AtEnd v.shape (n ∷ bs) v.walks next k
   end h =
-      let is : x ≡ leaf bs words v b = at-leaf bs words v b l.course.known (l.course.loads none) x stand in
+      let is : x ≡ leaf bs words v b
+      = at-leaf bs words v b l.course.known (l.course.loads none) x stand in
       let many : length n.cells ≡ length (empties_of (node_board v.shape bs x)) = ap length cells in
       let empties = leaf-empties bs words v k l x stand in
-      gets v.shape bs v.walks next k (whole bs words v b) leaves fits.block h n follows (leaf-end bs words v b fits.block.start x is) is (sym fits.start) cells
+      gets v.shape bs v.walks next k (whole bs words v b) leaves fits.block h n follows
+      (leaf-end bs words v b fits.block.start x is) is (sym fits.start) cells
       (omega (arith, may.fits, empties, many)) (omega (arith, may.some, empties, many))
       (subst (λ (m : Count). v.shape.knobs.expand ≤ m.visits) (leaf-tally bs words v k l (l.course.loads none) x stand) may.visits)
 
@@ -114,20 +121,24 @@ module _ (bs : List LinkedBlock) (words : List ℕ) (v : SeatView) (k : ℕ) (l 
       (subst (λ (h : Option HeldBlock). Stands v.shape bs v.walks next (ticket_in words) k v.ended v.ticket None h) fits.held
       (subst (λ (a : Option Flight). Stands v.shape bs v.walks next (ticket_in words) k v.ended v.ticket a v.held) none l.course.stands))
     where
-      by : (o : Option ℕ) → v.ticket ≡ o → Stands v.shape bs v.walks next (ticket_in words) k v.ended o None (Some fits.block)
+      by : (o : Option ℕ) → v.ticket ≡ o
+          → Stands v.shape bs v.walks next (ticket_in words) k v.ended o None (Some fits.block)
           → Stands v.shape (n ∷ bs) v.walks next (ticket_in words) k v.ended o v.adds None
       by None e st = absurd (none-some (sym ((l.state.in_hand 0 v refl).idle e).1 ∙ fits.held))
       by (Some m) e st = record {
         number = st.number;
         drawn = st.drawn;
-        walk = subst (λ (a : Option Flight). InWalk v.shape (n ∷ bs) v.walks next k a None) (sym none) (inr (end st.walk));
+        walk = subst (λ (a : Option Flight). InWalk v.shape (n ∷ bs) v.walks next k a None)
+            (sym none) (inr (end st.walk));
       }
 
-  pub publish : Course v.shape (n ∷ bs) (words_after words (Publish w c)) (later bs words v b (Publish w c)) k
+  pub publish : Course v.shape (n ∷ bs) (words_after words (Publish w c))
+      (later bs words v b (Publish w c)) k
   unfolding with_word published
   publish = record {
     width = l.course.width;
     known = inl knows;
-    loads = λ e i m h ne. l.course.loads e i m h ne ∙ sym (recorded-linked v.shape bs l.state.linked.blocks.order n follows v.walks leaves i);
+    loads = λ e i m h ne. l.course.loads e i m h ne
+        ∙ sym (recorded-linked v.shape bs l.state.linked.blocks.order n follows v.walks leaves i);
     stands = kept bs words v k l (Publish w c) tt fits (n ∷ bs) v.ended v.ticket v.adds None stands;
   }

@@ -1,5 +1,6 @@
 -- A walker makes its claims, publishes and first adds at its leaf.
-use Rattle.std.proofs.Common.{◌≡◌, ℕ, ◌+◌, List, [], ◌∷◌, length, Option, None, sym, ap, ◌∙◌, subst, inl, arith}
+use Rattle.std.proofs.Common.{◌≡◌, ℕ, ◌+◌, List, [], ◌∷◌, length, Option, None, sym, ap, ◌∙◌, subst}
+use Rattle.std.proofs.Common.{inl, arith}
 use Rattle.play_out.specs.Fills.{empties_of}
 use Rattle.tree_words.specs.Words.{root_at}
 use Rattle.tree_words.specs.Blocks.{InOrder, block_size}
@@ -15,7 +16,9 @@ use Rattle.walker.specs.Machine.{op_of, op_at, state_in}
 use Rattle.walker.specs.Climbs.{add_op}
 use Rattle.walker.specs.Belongs.{Belongs, Stands, MayClaim, Leaves, AtTally, AtSeen, adds_above}
 use Rattle.walker.specs.declared.stages.Stage.{Stage}
-use Rattle.walker.specs.declared.stages.Stage.TheVariants.{Drawing, Rooting, Linking, Heading, Scanning, Claiming, Writing, Publishing, Tallying, Seeing, Noting, Ended}
+use Rattle.walker.specs.declared.stages.Stage.TheVariants.{Drawing, Rooting, Linking, Heading}
+use Rattle.walker.specs.declared.stages.Stage.TheVariants.{Scanning, Claiming, Writing, Publishing}
+use Rattle.walker.specs.declared.stages.Stage.TheVariants.{Tallying, Seeing, Noting, Ended}
 use Rattle.walker.specs.declared.machine.Walker.{Walker}
 use Rattle.walker.proofs.KnownLaws.{one-order}
 use Rattle.walker.proofs.LeafLaws.{way-chosen}
@@ -28,7 +31,8 @@ module _ (w : Walker) (v : SeatView) (h : Belongs w v) where
   -- if it may claim
   may : MayClaim w v → MayGetBlock v w.node (size_below (state_in w))
   may m =
-      let same : length (empties_of w.board) ≡ empties_at v w.node = ap (λ (p : NodeState). length (empties_of p.board)) m.down.is in
+      let same : length (empties_of w.board) ≡ empties_at v w.node
+      = ap (λ (p : NodeState). length (empties_of p.board)) m.down.is in
       record {
         known = m.down.known;
         below = m.below;
@@ -50,7 +54,8 @@ module _ (w : Walker) (v : SeatView) (h : Belongs w v) where
   -- before the first add
   first : AtTally w v → v.adds ≡ None → (x : ℕ) × (w.at ≡ x + TALLY_WORD) × IsAtLeaf v x
   first at none =
-      let left : Leaves w v None (adds_above w v) = subst (λ (o : Option Flight). Leaves w v o (adds_above w v)) none at.left in
+      let left : Leaves w v None (adds_above w v)
+      = subst (λ (o : Option Flight). Leaves w v o (adds_above w v)) none at.left in
       let begin : MayBegin v w.leaf = left.0 in
       (w.leaf, at.at ∙ ap (λ (y : ℕ). y + TALLY_WORD) (sym left.1), record { known = begin.known; below = begin.below; bare = left.3; chosen = begin.chosen })
 

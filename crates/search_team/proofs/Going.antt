@@ -1,7 +1,8 @@
 -- Runs of a walker, by single steps.
 use Rattle.std.proofs.Common.{◌≡◌, ◌≢◌, ℕ, ◌<◌, suc, ap, arith}
 use Rattle.tree_words.specs.declared.steps.Op.{Op}
-use Rattle.tree_words.specs.declared.steps.Op.TheVariants.{Draw, Look, Claim, Write, Publish, Add, Note, Done}
+use Rattle.tree_words.specs.declared.steps.Op.TheVariants.{Draw, Look, Claim, Write, Publish, Add}
+use Rattle.tree_words.specs.declared.steps.Op.TheVariants.{Note, Done}
 use Rattle.arena_rule.specs.Views.{SeatView}
 use Rattle.arena_rule.specs.Answers.{MayAnswer}
 use Rattle.arena_rule.specs.Afters.{after}
@@ -30,17 +31,21 @@ pub not-done : (op : Op) → is-done op ≡ 0 → op ≢ Done
 not-done op z e = let q : is-done op ≡ 1 = ap is-done e in absurd (omega (arith, z, q))
 
 -- a step leaves less to do
-pub step-falls : (w : Walker) (v : SeatView) (x : ℕ) → Belongs w v → op_of w ≢ Done → MayAnswer v (op_of w) x
+pub step-falls : (w : Walker) (v : SeatView) (x : ℕ) → Belongs w v → op_of w ≢ Done
+    → MayAnswer v (op_of w) x
     → work_left (next w x) (after v (op_of w) x) < work_left w v
-step-falls w v x b some may = falls w (next w x) v (op_of w) x (fits w v b) may (λ nd. fewer w v b x may nd some) (bound w v b x)
+step-falls w v x b some may = falls w (next w x) v (op_of w) x (fits w v b) may
+    (λ nd. fewer w v b x may nd some) (bound w v b x)
 
 -- no step
 pub run-begins : (w : Walker) (v : SeatView) → Belongs w v → HasRun w v w v
 run-begins w v b = record { belongs = b; alone = λ s run. run; left = omega arith }
 
 -- one step more
-pub run-steps : (first w later : Walker) (begun v view : SeatView) → HasRun first begun w v → Belongs later view
-    → MakesStep w v later view → work_left later view < work_left w v → HasRun first begun later view
+pub run-steps : (first w later : Walker) (begun v view : SeatView) → HasRun first begun w v
+    → Belongs later view
+    → MakesStep w v later view → work_left later view < work_left w v
+    → HasRun first begun later view
 run-steps first w later begun v view run b step less = record {
   belongs = b;
   alone = λ s was. let r = run.alone s was in (suc r.0, (w, v, r.1, step));
@@ -48,7 +53,8 @@ run-steps first w later begun v view run b step less = record {
 }
 
 -- and a run more
-pub run-runs : (first w later : Walker) (begun v view : SeatView) → HasRun first begun w v → HasRun w v later view → HasRun first begun later view
+pub run-runs : (first w later : Walker) (begun v view : SeatView) → HasRun first begun w v
+    → HasRun w v later view → HasRun first begun later view
 run-runs first w later begun v view run more = record {
   belongs = more.belongs;
   alone = λ s was. more.alone s (run.alone s was);

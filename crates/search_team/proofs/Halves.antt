@@ -33,11 +33,13 @@ given-nothing v part = record {
   claimed = refl;
 }
 
-pub kept-fresh : (tree : TreeData) (seat kept : SeatData) (n part : ℕ) → IsFresh tree seat n → IsOf tree kept
+pub kept-fresh : (tree : TreeData) (seat kept : SeatData) (n part : ℕ) → IsFresh tree seat n
+    → IsOf tree kept
     → kept.view ≡ kept_part seat.view part → IsView kept.view → IsFresh tree kept (n - part)
 kept-fresh tree seat kept n part fresh own is order = record {
   own = own;
-  width = ap (λ (u : SeatView). u.width) is ∙ (kept-width seat.view part ∙ ap (λ (m : ℕ). m - part) fresh.width);
+  width = ap (λ (u : SeatView). u.width) is
+      ∙ (kept-width seat.view part ∙ ap (λ (m : ℕ). m - part) fresh.width);
   nothing = subst HasDrawnNothing (sym is) (kept-nothing seat.view part fresh.nothing);
   order = order;
 }
@@ -59,8 +61,10 @@ joined-ended : (v w : SeatView) → HasEnded v → HasEnded w → HasEnded (join
 unfolding joined
 joined-ended v w a b = omega (arith, a, b)
 
-pub joined-done : (tree : TreeData) (left right all : SeatData) (m k n : ℕ) → IsDone tree left m → IsDone tree right k
-    → IsOf tree all → all.view ≡ joined left.view right.view → IsView all.view → m + k ≡ n → IsDone tree all n
+pub joined-done : (tree : TreeData) (left right all : SeatData) (m k n : ℕ) → IsDone tree left m
+    → IsDone tree right k
+    → IsOf tree all → all.view ≡ joined left.view right.view → IsView all.view → m + k ≡ n
+    → IsDone tree all n
 joined-done tree left right all m k n a b own is order sum = record {
   own = own;
   width = (let w = ap (λ (u : SeatView). u.width) is ∙ joined-width left.view right.view in omega (arith, w, a.width, b.width, sum));

@@ -33,27 +33,36 @@ unfolding with_scan
 twice w s d = refl
 
 -- a scan that the view belongs to has more looks
-more-looks : (w : Walker) (v : SeatView) → Belongs w v → w.stage ≡ Scanning → w.scan.place < w.scan.count
-more-looks w v b e = let a : AtChild w v = subst (λ (t : Stage). Stands t w v) e b.stands in a.scan.place
+more-looks : (w : Walker) (v : SeatView) → Belongs w v → w.stage ≡ Scanning
+    → w.scan.place < w.scan.count
+more-looks w v b e = let a : AtChild w v = subst (λ (t : Stage). Stands t w v) e b.stands in
+    a.scan.place
 
 lent-same : (w : Walker) (v : SeatView) → Belongs w v → w.stage ≡ Scanning → with_scan w w.scan ≡ w
 lent-same w v b e = lent w w.scan (more-looks w v b e)
 
 -- a scan that the walker lent begins where the walker stands
-pub scan-begins : (w : Walker) (v : SeatView) → Belongs w v → w.stage ≡ Scanning → (s : ScanData) → s ≡ w.scan → HasRun w v (with_scan w s) v
-scan-begins w v b stage s e = subst (λ (u : Walker). HasRun w v u v) (sym (ap (with_scan w) e ∙ lent-same w v b stage)) (run-begins w v b)
+pub scan-begins : (w : Walker) (v : SeatView) → Belongs w v → w.stage ≡ Scanning → (s : ScanData)
+    → s ≡ w.scan → HasRun w v (with_scan w s) v
+scan-begins w v b stage s e
+    = subst (λ (u : Walker). HasRun w v u v) (sym (ap (with_scan w) e ∙ lent-same w v b stage))
+    (run-begins w v b)
 
-pub not-at-end : (w : Walker) (v : SeatView) → Belongs w v → w.stage ≡ Scanning → (s : ScanData) → s ≡ w.scan → s.place < s.count
-not-at-end w v b stage s e = subst (λ (d : ScanData). d.place < d.count) (sym e) (more-looks w v b stage)
+pub not-at-end : (w : Walker) (v : SeatView) → Belongs w v → w.stage ≡ Scanning → (s : ScanData)
+    → s ≡ w.scan → s.place < s.count
+not-at-end w v b stage s e = subst (λ (d : ScanData). d.place < d.count) (sym e)
+    (more-looks w v b stage)
 
 -- a look of the scan s was made: the scan is d, and the view u
-pub record HasLooked (w : Walker) (s : ScanData) (v : SeatView) (d : ScanData) (u : SeatView) : Type 0 where
+pub record HasLooked (w : Walker) (s : ScanData) (v : SeatView) (d : ScanData)
+    (u : SeatView) : Type 0 where
   pub belongs : Belongs (with_scan w d) u
   pub step : MakesStep (with_scan w s) v (with_scan w d) u
   pub fewer : work_left (with_scan w d) u < work_left (with_scan w s) v
   pub last : d.count ≤ d.place → MayChoose (record w { scan = d })
 
-module _ (w : Walker) (s : ScanData) (v : SeatView) (stage : w.stage ≡ Scanning) (more : s.place < s.count) (b : Belongs (with_scan w s) v) where
+module _ (w : Walker) (s : ScanData) (v : SeatView) (stage : w.stage ≡ Scanning)
+    (more : s.place < s.count) (b : Belongs (with_scan w s) v) where
   abbrev z : Walker
   z = record w { scan = s }
 
@@ -93,7 +102,8 @@ module _ (w : Walker) (s : ScanData) (v : SeatView) (stage : w.stage ≡ Scannin
     some : op_of z ≢ Done
     some = not-done (op_of z) (ap is-done op-is)
 
-    falls : work_left (with_scan w (scan_next s x)) (after v (Look s.at) x) < work_left (with_scan w s) v
+    falls : work_left (with_scan w (scan_next s x)) (after v (Look s.at) x) < work_left
+        (with_scan w s) v
     falls =
         let f = step-falls z v x here some may-get in
         omega (
@@ -108,7 +118,8 @@ module _ (w : Walker) (s : ScanData) (v : SeatView) (stage : w.stage ≡ Scannin
     looked-now = record { belongs = look-keeps; step = look-makes; fewer = falls; last = can.last }
 
   -- and so the look that was made
-  pub looked : (op : Op) (x : ℕ) (d : ScanData) (u : SeatView) → op ≡ Look s.at → MayAnswer v op x → d ≡ scan_next s x → u ≡ after v op x → HasLooked w s v d u
+  pub looked : (op : Op) (x : ℕ) (d : ScanData) (u : SeatView) → op ≡ Look s.at → MayAnswer v op x
+      → d ≡ scan_next s x → u ≡ after v op x → HasLooked w s v d u
   looked op x d u e may d-is u-is =
       subst (λ (r : ScanData). HasLooked w s v r u) (sym d-is)
       (subst (λ (t : SeatView). HasLooked w s v (scan_next s x) t) (sym (u-is ∙ ap (λ (o : Op). after v o x) e))

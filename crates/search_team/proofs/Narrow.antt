@@ -12,7 +12,8 @@ use Rattle.tree_words.proofs.Areas.SameSequence.{widened_tree}
 pub whole_tree : (s n : Setting) (closed whole : ClosedTree) → IsNarrower n s → closed.shape ≡ n
     → (n.knobs.workers ≡ 1 → IsTreeOf n closed.words (seq_of n).0)
     → (n.knobs.workers ≡ 1 → next_in closed.words ≡ (seq_of n).1)
-    → whole.words ≡ all_words s closed.words → min (next_in closed.words) (end_of s) ≤ end_of closed.shape
+    → whole.words ≡ all_words s closed.words
+    → min (next_in closed.words) (end_of s) ≤ end_of closed.shape
     → s.knobs.workers ≡ 1 → IsTreeOf s whole.words (seq_of s).0
 whole_tree s n closed whole narrower shape tree next words inside one =
     let workers : n.knobs.workers ≡ 1 = ap (λ (t : Setting). t.knobs.workers) narrower.area ∙ one in

@@ -32,29 +32,37 @@ climb-same w v b s = by w.climb refl (more-adds w v b s)
   where
     by : (c : List CountAdd) → w.climb ≡ c → c ≢ [] → with_climb w c ≡ w
     by [] e ne = absurd (ne refl)
-    by (a ∷ c) e ne = ap (λ (d : List CountAdd). record w { climb = d; stage = Seeing }) (sym e) ∙ ap (λ (t : Stage). record w { stage = t }) (sym s)
+    by (a ∷ c) e ne = ap (λ (d : List CountAdd). record w { climb = d; stage = Seeing }) (sym e)
+        ∙ ap (λ (t : Stage). record w { stage = t }) (sym s)
 
 -- a climb that the walker lent begins where the walker stands
-pub climb-begins : (w : Walker) (v : SeatView) → Belongs w v → w.stage ≡ Seeing → (c : List CountAdd) → c ≡ w.climb → HasRun w v (with_climb w c) v
-climb-begins w v b stage c e = subst (λ (u : Walker). HasRun w v u v) (sym (ap (with_climb w) e ∙ climb-same w v b stage)) (run-begins w v b)
+pub climb-begins : (w : Walker) (v : SeatView) → Belongs w v → w.stage ≡ Seeing
+    → (c : List CountAdd) → c ≡ w.climb → HasRun w v (with_climb w c) v
+climb-begins w v b stage c e
+    = subst (λ (u : Walker). HasRun w v u v) (sym (ap (with_climb w) e ∙ climb-same w v b stage))
+    (run-begins w v b)
 
 -- an add of the climb c was made: the climb is d, and the view u
-pub record HasAdded (w : Walker) (c : List CountAdd) (v : SeatView) (d : List CountAdd) (u : SeatView) : Type 0 where
+pub record HasAdded (w : Walker) (c : List CountAdd) (v : SeatView) (d : List CountAdd)
+    (u : SeatView) : Type 0 where
   pub belongs : Belongs (with_climb w d) u
   pub step : MakesStep (with_climb w c) v (with_climb w d) u
   pub fewer : work_left (with_climb w d) u < work_left (with_climb w c) v
   pub node : w.node < PAST_WORDS
 
 -- the climb with one add more stands at the same walker
-twice : (w : Walker) (a : CountAdd) (c : List CountAdd) → with_climb w c ≡ with_climb (record w { climb = a ∷ c; stage = Seeing }) c
+twice : (w : Walker) (a : CountAdd) (c : List CountAdd)
+    → with_climb w c ≡ with_climb (record w { climb = a ∷ c; stage = Seeing }) c
 twice w a [] = refl
 twice w a (b ∷ c) = refl
 
-pub fits-add : (w : Walker) (c : List CountAdd) (v : SeatView) → c ≢ [] → Belongs (with_climb w c) v → FitsStep v (add_op c)
+pub fits-add : (w : Walker) (c : List CountAdd) (v : SeatView) → c ≢ [] → Belongs (with_climb w c) v
+    → FitsStep v (add_op c)
 fits-add w [] v ne b = absurd (ne refl)
 fits-add w (a ∷ c) v ne b = fits (record w { climb = a ∷ c; stage = Seeing }) v b
 
-module _ (w : Walker) (a : CountAdd) (c : List CountAdd) (v : SeatView) (b : Belongs (with_climb w (a ∷ c)) v) (x : ℕ) (may : MayAnswer v (Add a.word a.won) x) where
+module _ (w : Walker) (a : CountAdd) (c : List CountAdd) (v : SeatView)
+    (b : Belongs (with_climb w (a ∷ c)) v) (x : ℕ) (may : MayAnswer v (Add a.word a.won) x) where
   abbrev z : Walker
   z = record w { climb = a ∷ c; stage = Seeing }
 
@@ -63,7 +71,8 @@ module _ (w : Walker) (a : CountAdd) (c : List CountAdd) (v : SeatView) (b : Bel
 
   added-now : HasAdded w (a ∷ c) v c (after v (Add a.word a.won) x)
   added-now = record {
-    belongs = subst (λ (u : Walker). Belongs u (after v (Add a.word a.won) x)) (sym next-is) (keeps z v b x may);
+    belongs = subst (λ (u : Walker). Belongs u (after v (Add a.word a.won) x)) (sym next-is)
+        (keeps z v b x may);
     step = record { answer = x; may = may; walker_is = next-is; view_is = refl };
     fewer =
         let f = step-falls z v x b (not-done (Add a.word a.won) refl) may in
@@ -73,7 +82,8 @@ module _ (w : Walker) (a : CountAdd) (c : List CountAdd) (v : SeatView) (b : Bel
 
 -- so the add that was made
 pub added : (w : Walker) (c : List CountAdd) (v : SeatView) → c ≢ [] → Belongs (with_climb w c) v
-    → (op : Op) (x : ℕ) (d : List CountAdd) (u : SeatView) → op ≡ add_op c → MayAnswer v op x → d ≡ adds_after c → u ≡ after v op x → HasAdded w c v d u
+    → (op : Op) (x : ℕ) (d : List CountAdd) (u : SeatView) → op ≡ add_op c → MayAnswer v op x
+    → d ≡ adds_after c → u ≡ after v op x → HasAdded w c v d u
 added w [] v ne b op x d u e may d-is u-is = absurd (ne refl)
 added w (a ∷ c) v ne b op x d u e may d-is u-is =
     subst (λ (r : List CountAdd). HasAdded w (a ∷ c) v r u) (sym d-is)

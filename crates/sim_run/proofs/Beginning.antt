@@ -1,4 +1,5 @@
--- A simulation at its beginning: the rule holds of the opening words with a view of width 1 for each worker.
+-- A simulation at its beginning: the rule holds of the opening words with a view of width 1 for
+-- each worker.
 use Rattle.std.proofs.Common.{◌≡◌, ◌≢◌, ℕ, List, [], replicate, refl, sym, subst, inr, arith}
 use Rattle.std.specs.List.{AllZip}
 use mathlib.Core.Option.{some}
@@ -37,14 +38,18 @@ module _ (s : Setting) (h : IsSetting s) (walkers : List Walker) (new : AreNew s
   nothing = record { ticket = refl; adds = refl; held = refl; ended = refl; walks = refl; full = refl; claimed = refl }
 
   -- a view for each walker
-  many : (P : Walker → SeatView → Type 0) (v : SeatView) → ((i : ℕ) (w : Walker) → get_elem? walkers i ≡ some w → P w v) → AllZip P walkers (replicate s.knobs.workers v)
-  many P v each = subst (λ (n : ℕ). AllZip P walkers (replicate n v)) new.count (zip-same P walkers v each)
+  many : (P : Walker → SeatView → Type 0) (v : SeatView)
+      → ((i : ℕ) (w : Walker) → get_elem? walkers i ≡ some w → P w v)
+      → AllZip P walkers (replicate s.knobs.workers v)
+  many P v each = subst (λ (n : ℕ). AllZip P walkers (replicate n v)) new.count
+      (zip-same P walkers v each)
 
   -- the one walker has the opening view
   sole : s.knobs.workers ≡ 1 → AreSimulated s (opening_words s) walkers
   sole one =
       let v : SeatView = opening_view s in
-      let own : (i : ℕ) (w : Walker) → get_elem? walkers i ≡ some w → Belongs w v = λ i w e. all-at (IsNew s) walkers new.each i w e v refl one nothing order in
+      let own : (i : ℕ) (w : Walker) → get_elem? walkers i ≡ some w → Belongs w v
+      = λ i w e. all-at (IsNew s) walkers new.each i w e v refl one nothing order in
       record {
         views = replicate s.knobs.workers v;
         rule = subst (λ (n : ℕ). Rule s (opening_words s) (replicate n v)) (sym one) (begins s h);
@@ -57,12 +62,16 @@ module _ (s : Setting) (h : IsSetting s) (walkers : List Walker) (new : AreNew s
   several ne =
       let v : SeatView = new_view s 1 [] in
       let least = h.ranges.workers.0 in
-      let given : IsView v = given-stays (opening_view s) order 1 (record { nothing = nothing; given = omega arith; kept = omega (arith, least, ne) }) in
-      let empty : HasDrawnNothing v = record { ticket = refl; adds = refl; held = refl; ended = refl; walks = refl; full = refl; claimed = refl } in
+      let given : IsView v
+      = given-stays (opening_view s) order 1
+      (record { nothing = nothing; given = omega arith; kept = omega (arith, least, ne) }) in
+      let empty : HasDrawnNothing v
+      = record { ticket = refl; adds = refl; held = refl; ended = refl; walks = refl; full = refl; claimed = refl } in
       record {
         views = replicate s.knobs.workers v;
         rule = begins-apart s h;
-        belong = many Belongs v (λ i w e. all-at (IsNew s) walkers new.each i w e v refl refl empty given);
+        belong = many Belongs v
+            (λ i w e. all-at (IsNew s) walkers new.each i w e v refl refl empty given);
         alone = λ one. absurd (ne one);
       }
 

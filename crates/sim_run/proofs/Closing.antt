@@ -1,5 +1,7 @@
--- The end of a simulation: the views of walkers that are done are joined to one, which closes the tree.
-use Rattle.std.proofs.Common.{◌≡◌, ℕ, suc, ◌+◌, ◌<◌, List, [], ◌∷◌, ◌++◌, length, set, refl, sym, ap, ◌∙◌, subst, append_assoc, append-nil, arith}
+-- The end of a simulation: the views of walkers that are done are joined to one, which closes the
+-- tree.
+use Rattle.std.proofs.Common.{◌≡◌, ℕ, suc, ◌+◌, ◌<◌, List, [], ◌∷◌, ◌++◌, length, set, refl, sym}
+use Rattle.std.proofs.Common.{ap, ◌∙◌, subst, append_assoc, append-nil, arith}
 use Rattle.std.specs.Prelude.{sum_by}
 use Rattle.std.specs.List.{AllZip}
 use Rattle.std.proofs.lemmas.List.Sums.{sum_by-cons, sum_by_push}
@@ -41,11 +43,13 @@ join-over v w a b =
 
 module _ (s : Setting) (words : List ℕ) where
   -- one seat after the other is joined with the first, and leaves a spent view
-  all-joined : (v : SeatView) (spent rest : List SeatView) → Rule s words (v ∷ spent ++ rest) → IsOver v → AreOver rest → sum_by width_of spent ≡ 0 → IsClosed s words
+  all-joined : (v : SeatView) (spent rest : List SeatView) → Rule s words (v ∷ spent ++ rest)
+      → IsOver v → AreOver rest → sum_by width_of spent ≡ 0 → IsClosed s words
   unfolding AreOver
   all-joined v spent [] r over rest none =
       let views : List SeatView = v ∷ spent ++ [] in
-      let sum : sum_by width_of (spent ++ []) ≡ 0 = ap (sum_by width_of) (append-nil spent) ∙ none in
+      let sum : sum_by width_of (spent ++ []) ≡ 0
+      = ap (sum_by width_of) (append-nil spent) ∙ none in
       let l = over.live in
       closes s words views r 0 v (record {
         seat = record { at = refl; live = l };
@@ -56,14 +60,18 @@ module _ (s : Setting) (words : List ℕ) where
       let z : SeatView = spent_view v.shape in
       let views : List SeatView = v ∷ spent ++ w ∷ rest in
       let both : Rule s words (joined v w ∷ set (spent ++ w ∷ rest) (length spent) z)
-      = joins s words views r 0 v refl over.live (suc (length spent)) w (at-middle spent w rest) (λ e. omega (arith, e)) left.0.live (record { left = over.ended; right = left.0.ended }) in
+      = joins s words views r 0 v refl over.live (suc (length spent)) w (at-middle spent w rest)
+      (λ e. omega (arith, e)) left.0.live (record { left = over.ended; right = left.0.ended }) in
       let same : set (spent ++ w ∷ rest) (length spent) z ≡ (spent ++ z ∷ []) ++ rest
       = set-middle spent w z rest ∙ sym (append_assoc spent (z ∷ []) rest) in
-      all-joined (joined v w) (spent ++ z ∷ []) rest (subst (λ (l : List SeatView). Rule s words (joined v w ∷ l)) same both) (join-over v w over left.0) left.1
+      all-joined (joined v w) (spent ++ z ∷ []) rest
+      (subst (λ (l : List SeatView). Rule s words (joined v w ∷ l)) same both)
+      (join-over v w over left.0) left.1
       (omega (arith, none, sum_by_push width_of spent z))
 
   -- the views of walkers that are done are over
-  are-over : (walkers : List Walker) (views : List SeatView) → AllZip Belongs walkers views → ((i : ℕ) (w : Walker) → get_elem? walkers i ≡ some w → IsFinished w) → AreOver views
+  are-over : (walkers : List Walker) (views : List SeatView) → AllZip Belongs walkers views
+      → ((i : ℕ) (w : Walker) → get_elem? walkers i ≡ some w → IsFinished w) → AreOver views
   unfolding AreOver
   are-over [] [] z done = tt
   are-over [] (v ∷ views) z done = absurd z
@@ -75,21 +83,29 @@ module _ (s : Setting) (words : List ℕ) where
   -- some worker is there
   end-closes : (views : List SeatView) → Rule s words views → AreOver views → IsClosed s words
   unfolding AreOver
-  end-closes [] r over = absurd (omega (arith, r.state.widths.sum, r.state.setting.ranges.workers.0))
+  end-closes [] r over
+      = absurd (omega (arith, r.state.widths.sum, r.state.setting.ranges.workers.0))
   end-closes (v ∷ views) r over = all-joined v [] views r over.0 over.1 refl
 
-  module _ (walkers : List Walker) (u : AreSimulated s words walkers) (done : AreFinished walkers) where
+  module _ (walkers : List Walker) (u : AreSimulated s words walkers)
+      (done : AreFinished walkers) where
     pub ends-closed : IsClosed s words
-    ends-closed = end-closes u.views u.rule (are-over walkers u.views u.belong (all-at IsFinished walkers done))
+    ends-closed = end-closes u.views u.rule
+        (are-over walkers u.views u.belong (all-at IsFinished walkers done))
 
     -- the words are the copy of the walker that has run alone
-    shown : (ws : List Walker) (views : List SeatView) → Rule s words views → AllZip (HasRunAlone s) ws views → ((i : ℕ) (w : Walker) → get_elem? ws i ≡ some w → IsFinished w) → IsTreeOf s words (seq_of s).0
-    shown [] [] r z each = absurd (omega (arith, r.state.widths.sum, r.state.setting.ranges.workers.0))
+    shown : (ws : List Walker) (views : List SeatView) → Rule s words views
+        → AllZip (HasRunAlone s) ws views
+        → ((i : ℕ) (w : Walker) → get_elem? ws i ≡ some w → IsFinished w)
+        → IsTreeOf s words (seq_of s).0
+    shown [] [] r z each
+        = absurd (omega (arith, r.state.widths.sum, r.state.setting.ranges.workers.0))
     shown [] (v ∷ views) r z each = absurd z
     shown (w ∷ ws) [] r z each = absurd z
     shown (w ∷ ws) (v ∷ views) r z each =
         let t : ShowsSequence s v = ends-as-sequence s w v z.0 (each 0 w refl) in
-        subst (λ (l : List ℕ). IsTreeOf s l (seq_of s).0) (sym (r.state.sole 0 v t.words refl t.whole).0) t.tree
+        subst (λ (l : List ℕ). IsTreeOf s l (seq_of s).0)
+        (sym (r.state.sole 0 v t.words refl t.whole).0) t.tree
 
     pub ends-shown : s.knobs.workers ≡ 1 → IsTreeOf s words (seq_of s).0
     ends-shown one = shown walkers u.views u.rule (u.alone one) (all-at IsFinished walkers done)

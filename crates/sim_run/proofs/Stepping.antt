@@ -1,12 +1,14 @@
 -- A step of a walker of a simulation.
-use Rattle.std.proofs.Common.{◌≡◌, ◌≢◌, ℕ, suc, ◌+◌, ◌-◌, ◌*◌, ◌<◌, ◌≤◌, List, length, set, refl, sym, ap, ◌∙◌, subst, ◌⊎◌, ⊎_elim, inl, inr, arith}
+use Rattle.std.proofs.Common.{◌≡◌, ◌≢◌, ℕ, suc, ◌+◌, ◌-◌, ◌*◌, ◌<◌, ◌≤◌, List, length, set, refl}
+use Rattle.std.proofs.Common.{sym, ap, ◌∙◌, subst, ◌⊎◌, ⊎_elim, inl, inr, arith}
 use Rattle.std.specs.Prelude.{slice_index, sum_by}
 use mathlib.Core.Option.{some}
 use lib.ListN.{get_elem?}
 use Rattle.tree_words.specs.Settings.{Setting}
 use Rattle.tree_words.specs.Words.{ticket_in}
 use Rattle.tree_words.specs.declared.steps.Op.{Op}
-use Rattle.tree_words.specs.declared.steps.Op.TheVariants.{Draw, Look, Claim, Write, Publish, Add, Note, Done}
+use Rattle.tree_words.specs.declared.steps.Op.TheVariants.{Draw, Look, Claim, Write, Publish, Add}
+use Rattle.tree_words.specs.declared.steps.Op.TheVariants.{Note, Done}
 use Rattle.arena_rule.specs.Views.{SeatView}
 use Rattle.arena_rule.specs.Fits.{FitsStep}
 use Rattle.arena_rule.specs.Afters.{word_of, answer_of, after}
@@ -31,7 +33,8 @@ use Rattle.sim_run.proofs.Zips.{zip-at, zip-set}
 use Rattle.sim_run.proofs.Frames.{before, within, fits-word, ticket-drawn, ticket-stays}
 
 -- TICKET is at most the sum of N and K
-pub ticket-most : (s : Setting) (words : List ℕ) (views : List SeatView) → Rule s words views → ticket_in words ≤ s.knobs.playouts + s.knobs.workers
+pub ticket-most : (s : Setting) (words : List ℕ) (views : List SeatView) → Rule s words views
+    → ticket_in words ≤ s.knobs.playouts + s.knobs.workers
 ticket-most s words views r =
     let w = r.state.widths in
     omega (arith, w.ticket, w.sum, total_le ended_of width_of views (λ i v e. (w.each i v e).ended))
@@ -47,7 +50,8 @@ draw-or (Add i won) = inr (λ e. cc)
 draw-or (Note k value) = inr (λ e. cc)
 draw-or Done = inr (λ e. cc)
 
-module _ (s : Setting) (words : List ℕ) (walkers : List Walker) (u : AreSimulated s words walkers) (id : ℕ) (w : Walker) (at : get_elem? walkers id ≡ some w) where
+module _ (s : Setting) (words : List ℕ) (walkers : List Walker) (u : AreSimulated s words walkers)
+    (id : ℕ) (w : Walker) (at : get_elem? walkers id ≡ some w) where
   abbrev pub op : Op
   op = op_of w
 
@@ -95,12 +99,16 @@ module _ (s : Setting) (words : List ℕ) (walkers : List Walker) (u : AreSimula
   stepped = record {
     views = views_after words u.views id v op;
     rule = rule;
-    belong = zip-set Belongs walkers u.views u.belong id w (next w found) v (after v op found) at here.1 (λ h. keeps w v h found may);
-    alone = λ one. zip-set (HasRunAlone s) walkers u.views (u.alone one) id w (next w found) v (after v op found) at here.1 run-on;
+    belong = zip-set Belongs walkers u.views u.belong id w (next w found) v
+        (after v op found) at here.1 (λ h. keeps w v h found may);
+    alone = λ one. zip-set (HasRunAlone s) walkers u.views (u.alone one) id w (next w found) v
+        (after v op found) at here.1 run-on;
   }
 
   -- and less to do
-  left : sum_by steps_left (set walkers id (next w found)) + steps_left w ≡ sum_by steps_left walkers + steps_left (next w found)
+  left : sum_by steps_left
+      (set walkers id (next w found)) + steps_left w ≡ sum_by steps_left walkers + steps_left
+      (next w found)
   left = total_set steps_left walkers id w (next w found) at
 
   pub step-falls : op ≢ Done
@@ -109,14 +117,17 @@ module _ (s : Setting) (words : List ℕ) (walkers : List Walker) (u : AreSimula
   step-falls more = ⊎_elim
       (λ (e : op ≡ Draw).
       let t : ticket_in (words_after words op) ≡ ticket_in words + 1
-      = ap (λ (o : Op). ticket_in (words_after words o)) e ∙ ticket-drawn u.rule.blocks words u.views id v b in
+      = ap (λ (o : Op). ticket_in (words_after words o)) e
+      ∙ ticket-drawn u.rule.blocks words u.views id v b in
       let most = ticket-most s (words_after words op) (views_after words u.views id v op) rule in
       let d : s.knobs.playouts + s.knobs.workers - ticket_in words ≡ s.knobs.playouts + s.knobs.workers - ticket_in (words_after words op) + 1
       = omega (arith, t, most) in
       omega (arith, d, left, bound w v own found e))
       (λ (ne : op ≢ Draw).
-      let d : s.knobs.playouts + s.knobs.workers - ticket_in (words_after words op) ≡ s.knobs.playouts + s.knobs.workers - ticket_in words
-      = ap (λ (t : ℕ). s.knobs.playouts + s.knobs.workers - t) (ticket-stays u.rule.blocks words u.views id v b op fit ne) in
+      let d : s.knobs.playouts + s.knobs.workers - ticket_in
+      (words_after words op) ≡ s.knobs.playouts + s.knobs.workers - ticket_in words
+      = ap (λ (t : ℕ). s.knobs.playouts + s.knobs.workers - t)
+      (ticket-stays u.rule.blocks words u.views id v b op fit ne) in
       omega (arith, d, left, fewer w v own found may ne more))
       (draw-or op)
 
@@ -133,7 +144,8 @@ module _ (s : Setting) (words : List ℕ) (walkers : List Walker) (u : AreSimula
       pub may-take : MayGet w x
       may-take = subst (MayGet w) (sym is-found) may-get
 
-      module _ (now : List ℕ) (put : now ≡ words_after ws o) (later : List Walker) (got : later ≡ set walkers id (next w x)) where
+      module _ (now : List ℕ) (put : now ≡ words_after ws o) (later : List Walker)
+          (got : later ≡ set walkers id (next w x)) where
         now-is : now ≡ words_after words op
         now-is = put ∙ (λ i. words_after (same i) (is i))
 
@@ -141,7 +153,8 @@ module _ (s : Setting) (words : List ℕ) (walkers : List Walker) (u : AreSimula
         later-is = got ∙ ap (λ (y : ℕ). set walkers id (next w y)) is-found
 
         pub goes-on : AreSimulated s now later
-        goes-on = subst (λ (l : List ℕ). AreSimulated s l later) (sym now-is) (subst (AreSimulated s (words_after words op)) (sym later-is) stepped)
+        goes-on = subst (λ (l : List ℕ). AreSimulated s l later) (sym now-is)
+            (subst (AreSimulated s (words_after words op)) (sym later-is) stepped)
 
         pub goes-down : o ≢ Done
             → (1 + WALK_STEPS) * (s.knobs.playouts + s.knobs.workers - ticket_in now) + sum_by steps_left later

@@ -1,5 +1,6 @@
 -- What the words have of the last seat's view, if its workers have ended.
-use Rattle.std.proofs.Common.{◌≡◌, ℕ, ◌≤◌, Bool, cond, List, [], length, get_or, Some, refl, sym, ap, ◌∙◌, subst, inr, arith}
+use Rattle.std.proofs.Common.{◌≡◌, ℕ, ◌≤◌, Bool, cond, List, [], length, get_or, Some, refl, sym}
+use Rattle.std.proofs.Common.{ap, ◌∙◌, subst, inr, arith}
 use Rattle.std.proofs.lemmas.Bool.{eq-eqb}
 use mathlib.Core.Option.{some}
 use lib.ListN.{get_elem?}
@@ -27,11 +28,14 @@ use Rattle.arena_rule.proofs.LastSeat.{value}
 use Rattle.tree_rule.specs.Ends.{AreShown, AreRecords, IsSameBehind, EndsWith}
 
 -- NEXT never lies before the end of the root's block
-next-behind : (s : Setting) (bs : List LinkedBlock) (words : List ℕ) (views : List SeatView) → IsState s bs words views → opening_next s ≤ next_in words
+next-behind : (s : Setting) (bs : List LinkedBlock) (words : List ℕ) (views : List SeatView)
+    → IsState s bs words views → opening_next s ≤ next_in words
 next-behind s bs words views st =
     let r : ℕ = root_at s in
-    let here = told-real s words bs [] r (area_at s) st.linked.blocks tt (root_node r []) st.setting.position.most st.linked.link (omega arith) in
-    let whole = whole-in s (next_in words) bs (told_block s [] r (area_at s)) st.linked.blocks.order st.linked.blocks.complete here in
+    let here = told-real s words bs [] r (area_at s) st.linked.blocks tt
+    (root_node r []) st.setting.position.most st.linked.link (omega arith) in
+    let whole = whole-in s (next_in words) bs
+    (told_block s [] r (area_at s)) st.linked.blocks.order st.linked.blocks.complete here in
     let cells = ap (λ (t : Bool). length (cond t (allowed_cells s) (empties_of (node_board s [] r)))) (eq-eqb r r refl) in
     omega (arith, whole.claimed, cells)
 
@@ -41,7 +45,9 @@ module _ (s : Setting) (words : List ℕ) (views : List SeatView) (r : Rule s wo
   beyond i past l =
       let a : AreOpening s (opening_words s) = opening-are s r.state.setting in
       let low = next-behind s r.blocks words views r.state in
-      let zero : get_or (opening_words s) i 0 ≡ 0 = clear s (opening_words s) a.empties r.state.setting a.set a.long (λ j m d. a.each j m) i (omega (arith, low)) (λ e. omega (arith, e, low)) (inr (omega (arith, low))) in
+      let zero : get_or (opening_words s) i 0 ≡ 0
+      = clear s (opening_words s) a.empties r.state.setting a.set a.long (λ j m d. a.each j m) i
+      (omega (arith, low)) (λ e. omega (arith, e, low)) (inr (omega (arith, low))) in
       r.state.fresh i (omega (arith, low)) past (omega (arith, a.long)) ∙ sym zero
 
   module _ (id : ℕ) (v : SeatView) (last : IsLast s views id v) where
@@ -52,11 +58,14 @@ module _ (s : Setting) (words : List ℕ) (views : List SeatView) (r : Rule s wo
     before = record { state = subst (λ (t : Setting). IsState t r.blocks words views) (sym shape) r.state; at = last.seat.at; live = last.seat.live }
 
     pub shown : AreShown words v.known
-    shown b n = let h = known_shown s r.blocks words views r.state id v b last.seat.at n in record { link = h.0; block = h.1 }
+    shown b n = let h = known_shown s r.blocks words views r.state id v b last.seat.at n in
+        record { link = h.0; block = h.1 }
 
     pub records : AreRecords s words v
     records k l =
-        value r.blocks words views id v before (last.width ∙ sym (ap (λ (t : Setting). t.knobs.workers) shape)) last.ended k (omega (arith, l, ap (λ (t : Setting). t.knobs.playouts) shape))
+        value r.blocks words views id v before
+        (last.width ∙ sym (ap (λ (t : Setting). t.knobs.workers) shape)) last.ended k
+        (omega (arith, l, ap (λ (t : Setting). t.knobs.playouts) shape))
 
     pub whole-is : (copy : List ℕ) → v.whole ≡ Some copy → words ≡ copy
     whole-is copy e = (r.state.sole id v copy last.seat.at e).0
@@ -69,12 +78,14 @@ pub record EndsSo (t : Setting) (u : SeatView) (words : List ℕ) : Type 0 where
   pub records : AreRecords t words u
   pub whole : (copy : List ℕ) → u.whole ≡ Some copy → words ≡ copy
 
-pub end-told : (s t : Setting) (id : ℕ) (v u : SeatView) (words : List ℕ) → EndsWith s id v words → s ≡ t → v ≡ u → u.width ≡ t.knobs.workers → HasEnded u → EndsSo t u words
+pub end-told : (s t : Setting) (id : ℕ) (v u : SeatView) (words : List ℕ) → EndsWith s id v words
+    → s ≡ t → v ≡ u → u.width ≡ t.knobs.workers → HasEnded u → EndsSo t u words
 end-told s t id v u words e st vu width ended =
     let rule : Rule t words e.views = subst (λ (z : Setting). Rule z words e.views) st e.rule in
     let at : get_elem? e.views id ≡ some u = e.at ∙ ap some vu in
     let many = rule.state.setting.ranges.workers.0 in
-    let last : IsLast t e.views id u = record { seat = record { at = at; live = omega (arith, width, many) }; width = width; ended = ended } in
+    let last : IsLast t e.views id u
+    = record { seat = record { at = at; live = omega (arith, width, many) }; width = width; ended = ended } in
     record {
       closed = closes t words e.views rule id u last;
       known = shown t words e.views rule id u last;

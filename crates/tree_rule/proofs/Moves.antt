@@ -1,5 +1,7 @@
 -- The laws of the steps, as the table asks for them.
-use Rattle.std.proofs.Common.{◌≡◌, ◌≢◌, ℕ, ◌+◌, ◌-◌, ◌/◌, ◌%◌, ◌^◌, ◌<◌, ◌≤◌, Bool, true, false, cond, List, [], ◌∷◌, ◌++◌, set, get_or, refl, sym, ap, ◌∙◌, subst, ⊎_elim, inr, arith}
+use Rattle.std.proofs.Common.{◌≡◌, ◌≢◌, ℕ, ◌+◌, ◌-◌, ◌/◌, ◌%◌, ◌^◌, ◌<◌, ◌≤◌, Bool, true, false}
+use Rattle.std.proofs.Common.{cond, List, [], ◌∷◌, ◌++◌, set, get_or, refl, sym, ap, ◌∙◌, subst}
+use Rattle.std.proofs.Common.{⊎_elim, inr, arith}
 use Rattle.std.specs.Prelude.{◌==◌}
 use Rattle.std.proofs.Math.Nat.{mod-eq_of_lt}
 use mathlib.Core.Option.{none, some}
@@ -33,11 +35,15 @@ use Rattle.tree_rule.specs.Plays.{IsStep, add_tells, note_tells}
 use Rattle.tree_rule.specs.Seats.{IsSeatOf}
 use Rattle.tree_rule.specs.Visits.{own_visits}
 
--- an operation that puts into the word what the step puts there, if the answer is one that it may give
-module _ (s : Setting) (slots id : ℕ) (m : Me ℕ SeatView) (op : Op) (iv : IsView m.0) (fits : FitsStep m.0 op) where
+-- an operation that puts into the word what the step puts there, if the answer is one that it may
+-- give
+module _ (s : Setting) (slots id : ℕ) (m : Me ℕ SeatView) (op : Op) (iv : IsView m.0)
+    (fits : FitsStep m.0 op) where
   -- the arena in which the step is made
-  made-in : (words : List ℕ) (views : List SeatView) → Rule s words views → get_elem? views id ≡ some m.0 → 0 < m.0.width
-      → Rule s (words_after words op) (views_after words views id m.0 op) → IsMadeInRule m.0 op (answer_of op (get_or words (word_of op) 0))
+  made-in : (words : List ℕ) (views : List SeatView) → Rule s words views
+      → get_elem? views id ≡ some m.0 → 0 < m.0.width
+      → Rule s (words_after words op) (views_after words views id m.0 op)
+      → IsMadeInRule m.0 op (answer_of op (get_or words (word_of op) 0))
   made-in words views h at live rule =
       let shape : m.0.shape ≡ s = (h.state.widths.each id m.0 at).shape in
       record {
@@ -49,17 +55,22 @@ module _ (s : Setting) (slots id : ℕ) (m : Me ℕ SeatView) (op : Op) (iv : Is
         after = subst (λ (z : Setting). Rule z (words_after words op) (views_after words views id m.0 op)) (sym shape) rule;
       }
 
-  pub acts : (f : ℕ → ℕ) → ((x : ℕ) → x < 2 ^ 64 → MayAnswer m.0 op (answer_of op x) → f x ≡ put op x) → Allows (HoldsArenaRule s) slots id m (word_of op) f (λ x n. IsStep m op (answer_of op x) n)
+  pub acts : (f : ℕ → ℕ)
+      → ((x : ℕ) → x < 2 ^ 64 → MayAnswer m.0 op (answer_of op x) → f x ≡ put op x)
+      → Allows (HoldsArenaRule s) slots id m (word_of op) f (λ x n. IsStep m op (answer_of op x) n)
   acts f same t h _ at low =
       let x : ℕ = get_or t.words (word_of op) 0 in
       let w : SeatView = after m.0 op (answer_of op x) in
       let live : 0 < m.0.width = omega (arith, iv.width) in
-      let may : MayAnswer m.0 op (answer_of op x) = answers s t.words t.views h id m.0 at live op fits in
-      let rule : HoldsArenaRule s (stepped t (word_of op) (put op x) id m.1 w keeps) = steps s t.words t.views h id m.0 at live op fits in (
+      let may : MayAnswer m.0 op (answer_of op x)
+      = answers s t.words t.views h id m.0 at live op fits in
+      let rule : HoldsArenaRule s (stepped t (word_of op) (put op x) id m.1 w keeps)
+      = steps s t.words t.views h id m.0 at live op fits in (
         w,
         keeps,
         tt,
-        subst (λ (n : ℕ). HoldsArenaRule s (stepped t (word_of op) n id m.1 w keeps)) (sym (same x low may)) rule,
+        subst (λ (n : ℕ). HoldsArenaRule s (stepped t (word_of op) n id m.1 w keeps))
+            (sym (same x low may)) rule,
         record { answer = may; made = made-in t.words t.views h at live rule; view = refl; slots = refl },
       )
 
@@ -71,13 +82,15 @@ module _ (v : SeatView) (iv : IsView v) where
       let most = iv.setting.ranges.workers.1 in
       mod-eq_of_lt (omega (arith, may.step.most, few, most))
 
-  pub claim-same : (size x : ℕ) → size < 2 ^ 32 → MayAnswer v (Claim size) x → (x + size) % 2 ^ 64 ≡ x + size
+  pub claim-same : (size x : ℕ) → size < 2 ^ 32 → MayAnswer v (Claim size) x
+      → (x + size) % 2 ^ 64 ≡ x + size
   claim-same size x small may =
       let few = iv.setting.ranges.playouts.1 in
       let most = iv.setting.ranges.words.1 in
       mod-eq_of_lt (omega (arith, may.step.most, few, most, small))
 
-  pub add-same : (i : ℕ) (won : Bool) (x : ℕ) → MayAnswer v (Add i won) x → (x + amount_of won) % 2 ^ 64 ≡ x + amount_of won
+  pub add-same : (i : ℕ) (won : Bool) (x : ℕ) → MayAnswer v (Add i won) x
+      → (x + amount_of won) % 2 ^ 64 ≡ x + amount_of won
   add-same i won x may =
       let few = iv.setting.ranges.playouts.1 in
       mod-eq_of_lt (by won (omega (arith, may.step, few)))
@@ -105,42 +118,57 @@ won-told true = refl
 won-told false = refl
 
 -- a look at a tally answers at least the seat's own visits
-pub own-visits : (v : SeatView) (op : Op) (n x : ℕ) → MayAnswer v op n → is_known v x ≡ true → op ≡ Look (x + 2) → own_visits v x ≤ visits_in n
+pub own-visits : (v : SeatView) (op : Op) (n x : ℕ) → MayAnswer v op n → is_known v x ≡ true
+    → op ≡ Look (x + 2) → own_visits v x ≤ visits_in n
 own-visits v op n x may known e =
     let look : MayAnswer v (Look (x + 2)) n = subst (λ (o : Op). MayAnswer v o n) e may in
     (look.step.tally x known refl).own
 
 -- a step leaves the seat at its table, with a view in order
-pub sits-after : (table : TableId) (old new : Seat ℕ SeatView) (op : Op) (x : ℕ) → IsSeatOf table old → FitsStep old.me.0 op → new.table_id ≡ old.table_id → IsStep old.me op x new.me → IsSeatOf table new
+pub sits-after : (table : TableId) (old new : Seat ℕ SeatView) (op : Op) (x : ℕ)
+    → IsSeatOf table old → FitsStep old.me.0 op → new.table_id ≡ old.table_id
+    → IsStep old.me op x new.me → IsSeatOf table new
 sits-after table old new op x sits fits same told = record {
   table = same ∙ sits.table;
   slots = told.slots ∙ sits.slots;
-  words = sits.words ∙ sym (ap (λ (u : SeatView). end_of u.shape) told.view ∙ ap end_of (shape-after old.me.0 op x));
+  words = sits.words
+      ∙ sym (ap (λ (u : SeatView). end_of u.shape) told.view ∙ ap end_of (shape-after old.me.0 op x));
   view = subst IsView (sym told.view) (view-stays old.me.0 sits.view op x fits told.answer);
 }
 
 -- an Add is told by what it adds, and a Note by its word
-pub add-allowed : (s : Setting) (slots id : ℕ) (m : Me ℕ SeatView) (i n : ℕ) (won : Bool) → n ≡ amount_of won → IsView m.0 → FitsStep m.0 (Add i won)
-    → Allows (HoldsArenaRule s) slots id m i (λ x. (x + n) % 2 ^ 64) (add_tells (step slots i n 0 none) m)
+pub add-allowed : (s : Setting) (slots id : ℕ) (m : Me ℕ SeatView) (i n : ℕ) (won : Bool)
+    → n ≡ amount_of won → IsView m.0 → FitsStep m.0 (Add i won)
+    → Allows (HoldsArenaRule s) slots id m i (λ x. (x + n) % 2 ^ 64)
+    (add_tells (step slots i n 0 none) m)
 add-allowed s slots id m i n won is iv fits =
     subst (λ (t : Bool). Allows (HoldsArenaRule s) slots id m i (λ x. (x + n) % 2 ^ 64) (λ x new. IsStep m (Add i t) x new)) (sym (ap (λ (k : ℕ). k == amount_of true) is ∙ won-told won))
     (acts s slots id m (Add i won) iv fits (λ x. (x + n) % 2 ^ 64) (λ x low may. ap (λ (k : ℕ). (x + k) % 2 ^ 64) is ∙ add-same m.0 iv i won x may))
 
-pub note-allowed : (s : Setting) (slots id : ℕ) (m : Me ℕ SeatView) (k value : ℕ) → IsView m.0 → FitsStep m.0 (Note k value)
-    → Allows (HoldsArenaRule s) slots id m (2 + k) (λ _. value) (λ _. note_tells (step slots (2 + k) value 0 none) m value)
+pub note-allowed : (s : Setting) (slots id : ℕ) (m : Me ℕ SeatView) (k value : ℕ) → IsView m.0
+    → FitsStep m.0 (Note k value)
+    → Allows (HoldsArenaRule s) slots id m (2 + k) (λ _. value)
+    (λ _. note_tells (step slots (2 + k) value 0 none) m value)
 note-allowed s slots id m k value iv fits =
     let back : (2 + k) - 2 ≡ k = omega arith in
     subst (λ (j : ℕ). Allows (HoldsArenaRule s) slots id m (2 + k) (λ _. value) (λ _ n. IsStep m (Note j value) 0 n)) (sym back)
     (acts s slots id m (Note k value) iv fits (λ _. value) (λ x low may. refl))
 
 -- a split and a join, as the table asks for them, if the part and the spent view are picked
-pub cuts : (s : Setting) (id part p : ℕ) (v : SeatView) → part ≡ p → IsView v → CanSplit v part → Splits (HoldsArenaRule s) id v (kept_part v p) (given_part v p)
+pub cuts : (s : Setting) (id part p : ℕ) (v : SeatView) → part ≡ p → IsView v → CanSplit v part
+    → Splits (HoldsArenaRule s) id v (kept_part v p) (given_part v p)
 cuts s id part p v is iv can t h at =
-    subst (λ (q : ℕ). Rule s t.words (views_split t.views id v q)) is (splits s t.words t.views h id v at (omega (arith, iv.width)) part can)
+    subst (λ (q : ℕ). Rule s t.words (views_split t.views id v q)) is
+    (splits s t.words t.views h id v at (omega (arith, iv.width)) part can)
 
-pub merges : (s : Setting) (id : ℕ) (v : SeatView) (other : ℕ) (w spent : SeatView) → spent ≡ spent_view v.shape → IsView v → IsView w → CanJoin v w → Joins (HoldsArenaRule s) id v other w (joined v w) spent
+pub merges : (s : Setting) (id : ℕ) (v : SeatView) (other : ℕ) (w spent : SeatView)
+    → spent ≡ spent_view v.shape → IsView v → IsView w → CanJoin v w
+    → Joins (HoldsArenaRule s) id v other w (joined v w) spent
 merges s id v other w spent is iv iw can t h at apart there =
-    let here : get_elem? t.views other ≡ some w = ⊎_elim (λ (q : (other ≡ id) × (joined v w ≡ w)). absurd (apart q.0)) (λ (q : (other ≢ id) × (get_elem? t.views other ≡ some w)). q.1) (at_set t.views id other (joined v w) w there) in
+    let here : get_elem? t.views other ≡ some w
+    = ⊎_elim (λ (q : (other ≡ id) × (joined v w ≡ w)). absurd (apart q.0))
+    (λ (q : (other ≢ id) × (get_elem? t.views other ≡ some w)). q.1)
+    (at_set t.views id other (joined v w) w there) in
     subst (λ (u : SeatView). Rule s t.words (set (set t.views id (joined v w)) other u)) (sym is)
     (joins s t.words t.views h id v at (omega (arith, iv.width)) other w here apart (omega (arith, iw.width)) can)
 
@@ -166,33 +194,43 @@ opening-order s h = record {
 }
 
 module _ (table : TableId) (old new : Seat ℕ SeatView) where
-  pub sits-kept : (part p : ℕ) → IsSeatOf table old → CanSplit old.me.0 part → part ≡ p → new.table_id ≡ old.table_id → new.me ≡ (kept_part old.me.0 p, old.me.1) → IsSeatOf table new
+  pub sits-kept : (part p : ℕ) → IsSeatOf table old → CanSplit old.me.0 part → part ≡ p
+      → new.table_id ≡ old.table_id → new.me ≡ (kept_part old.me.0 p, old.me.1) → IsSeatOf table new
   sits-kept part p sits can is same me = record {
     table = same ∙ sits.table;
     slots = ap (λ (m : Me ℕ SeatView). m.1) me ∙ sits.slots;
-    words = sits.words ∙ sym (ap (λ (m : Me ℕ SeatView). end_of m.0.shape) me ∙ ap end_of (kept-shape old.me.0 p));
-    view = subst IsView (ap (kept_part old.me.0) is ∙ sym (ap (λ (m : Me ℕ SeatView). m.0) me)) (kept-stays old.me.0 sits.view part can);
+    words = sits.words
+        ∙ sym (ap (λ (m : Me ℕ SeatView). end_of m.0.shape) me ∙ ap end_of (kept-shape old.me.0 p));
+    view = subst IsView (ap (kept_part old.me.0) is ∙ sym (ap (λ (m : Me ℕ SeatView). m.0) me))
+        (kept-stays old.me.0 sits.view part can);
   }
 
-  pub sits-given : (part p : ℕ) → IsSeatOf table old → CanSplit old.me.0 part → part ≡ p → new.table_id ≡ old.table_id → new.me ≡ (given_part old.me.0 p, []) → IsSeatOf table new
+  pub sits-given : (part p : ℕ) → IsSeatOf table old → CanSplit old.me.0 part → part ≡ p
+      → new.table_id ≡ old.table_id → new.me ≡ (given_part old.me.0 p, []) → IsSeatOf table new
   sits-given part p sits can is same me = record {
     table = same ∙ sits.table;
     slots = ap (λ (m : Me ℕ SeatView). m.1) me;
     words = sits.words ∙ sym (ap (λ (m : Me ℕ SeatView). end_of m.0.shape) me);
-    view = subst IsView (ap (given_part old.me.0) is ∙ sym (ap (λ (m : Me ℕ SeatView). m.0) me)) (given-stays old.me.0 sits.view part can);
+    view = subst IsView (ap (given_part old.me.0) is ∙ sym (ap (λ (m : Me ℕ SeatView). m.0) me))
+        (given-stays old.me.0 sits.view part can);
   }
 
-pub sits-joined : (table : TableId) (old other new : Seat ℕ SeatView) → IsSeatOf table old → IsSeatOf table other → other.me.0.shape ≡ old.me.0.shape → CanJoin old.me.0 other.me.0
-    → new.table_id ≡ old.table_id → new.me ≡ (joined old.me.0 other.me.0, old.me.1) → IsSeatOf table new
+pub sits-joined : (table : TableId) (old other new : Seat ℕ SeatView) → IsSeatOf table old
+    → IsSeatOf table other → other.me.0.shape ≡ old.me.0.shape → CanJoin old.me.0 other.me.0
+    → new.table_id ≡ old.table_id → new.me ≡ (joined old.me.0 other.me.0, old.me.1)
+    → IsSeatOf table new
 sits-joined table old other new sits others shape can same me = record {
   table = same ∙ sits.table;
   slots = ap (λ (m : Me ℕ SeatView). m.1) me ∙ sits.slots;
-  words = sits.words ∙ sym (ap (λ (m : Me ℕ SeatView). end_of m.0.shape) me ∙ ap end_of (joined-shape old.me.0 other.me.0));
-  view = subst IsView (sym (ap (λ (m : Me ℕ SeatView). m.0) me)) (join-stays old.me.0 other.me.0 sits.view others.view shape can);
+  words = sits.words
+      ∙ sym (ap (λ (m : Me ℕ SeatView). end_of m.0.shape) me ∙ ap end_of (joined-shape old.me.0 other.me.0));
+  view = subst IsView (sym (ap (λ (m : Me ℕ SeatView). m.0) me))
+      (join-stays old.me.0 other.me.0 sits.view others.view shape can);
 }
 
 -- a split and a join keep the rule wherever it holds
-pub split-keeps : (v w u : SeatView) (part : ℕ) → IsView v → CanSplit v part → w ≡ kept_part v part → u ≡ given_part v part → SplitKeepsRule v w u
+pub split-keeps : (v w u : SeatView) (part : ℕ) → IsView v → CanSplit v part → w ≡ kept_part v part
+    → u ≡ given_part v part → SplitKeepsRule v w u
 split-keeps v w u part iv can kept given a id h seat =
     subst (λ (z : SeatView). Rule v.shape a.words (set a.views id z ++ u ∷ [])) (sym kept)
     (subst (λ (z : SeatView). Rule v.shape a.words (set a.views id (kept_part v part) ++ z ∷ [])) (sym given)

@@ -1,4 +1,5 @@
--- Linked blocks: what a newer block leaves, who is a node, links, what is told, the one tree that they show, and where the root's block ends.
+-- Linked blocks: what a newer block leaves, who is a node, links, what is told, the one tree that
+-- they show, and where the root's block ends.
 
 -- Laws for the layers above.
 pub mod BlockLaws

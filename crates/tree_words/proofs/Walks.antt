@@ -1,4 +1,5 @@
--- The walk on the blocks is the walk on the tree; what it adds, from the root down and from the leaf up.
+-- The walk on the blocks is the walk on the tree; what it adds, from the root down and from the
+-- leaf up.
 
 -- Laws for the layers above.
 pub mod Down

@@ -1,5 +1,6 @@
 -- Done comes exactly after a Draw that gave at least N.
-use Rattle.std.proofs.Common.{◌≡◌, ◌≢◌, ◌⊎◌, ℕ, ◌≤◌, ◌<◌, List, [], ◌∷◌, refl, sym, ap, ◌∙◌, subst, arith, ⊎_elim, inl, inr}
+use Rattle.std.proofs.Common.{◌≡◌, ◌≢◌, ◌⊎◌, ℕ, ◌≤◌, ◌<◌, List, [], ◌∷◌, refl, sym, ap, ◌∙◌, subst}
+use Rattle.std.proofs.Common.{arith, ⊎_elim, inl, inr}
 use Rattle.std.proofs.lemmas.Bool.{cases_lt}
 use Rattle.tree_words.specs.Sequence.{size_below}
 use Rattle.tree_words.specs.declared.steps.Op.TheVariants.{Draw, Look, Done}
@@ -9,7 +10,9 @@ use Rattle.arena_rule.specs.Answers.{MayAnswer}
 use Rattle.arena_rule.specs.Afters.{after, looked, wrote, published, added_at, noted, with_word}
 use Rattle.arena_rule.proofs.Changes.{claimed_same}
 use Rattle.walker.specs.declared.stages.Stage.{Stage}
-use Rattle.walker.specs.declared.stages.Stage.TheVariants.{Drawing, Rooting, Linking, Heading, Scanning, Claiming, Writing, Publishing, Tallying, Seeing, Noting, Ended}
+use Rattle.walker.specs.declared.stages.Stage.TheVariants.{Drawing, Rooting, Linking, Heading}
+use Rattle.walker.specs.declared.stages.Stage.TheVariants.{Scanning, Claiming, Writing, Publishing}
+use Rattle.walker.specs.declared.stages.Stage.TheVariants.{Tallying, Seeing, Noting, Ended}
 use Rattle.walker.specs.declared.machine.Walker.{Walker}
 use Rattle.walker.specs.Climbs.{add_op}
 use Rattle.walker.specs.Machine.{state_in, op_at, op_of, next_at, next, drawn}
@@ -56,19 +59,24 @@ draw-at w Noting e = absurd (cc)
 draw-at w Ended e = absurd (cc)
 
 -- an add changes nothing of that
-add-ended : (climb : List CountAdd) (v : SeatView) (x : ℕ) → (after v (add_op climb) x).ended ≡ v.ended
+add-ended : (climb : List CountAdd) (v : SeatView) (x : ℕ)
+    → (after v (add_op climb) x).ended ≡ v.ended
 unfolding with_word added_at
 add-ended [] v x = refl
 add-ended (a ∷ climb) v x = refl
 
 module _ (w : Walker) (v : SeatView) (b : Belongs w v) (x : ℕ) (may : MayAnswer v (op_of w) x) where
   -- a worker that has not ended ends by a draw alone
-  no-end : (t : Stage) → op_of (next w x) ≡ Done → w.stage ≡ t → v.ended ≡ 0 → (after v (op_at t w) x).ended ≡ v.ended → ⊥
+  no-end : (t : Stage) → op_of (next w x) ≡ Done → w.stage ≡ t → v.ended ≡ 0
+      → (after v (op_at t w) x).ended ≡ v.ended → ⊥
   no-end t e s z same =
       let b2 = keeps w v b x may in
-      let stage : (next w x).stage ≡ Ended = done-at (next w x) (after v (op_of w) x) (next w x).stage b2.stands e in
-      let end : AtEnd (next w x) (after v (op_of w) x) = subst (λ (q : Stage). Stands q (next w x) (after v (op_of w) x)) stage b2.stands in
-      let one : (after v (op_at t w) x).ended ≡ 1 = ap (λ (q : Stage). (after v (op_at q w) x).ended) (sym s) ∙ end.ended in
+      let stage : (next w x).stage ≡ Ended
+      = done-at (next w x) (after v (op_of w) x) (next w x).stage b2.stands e in
+      let end : AtEnd (next w x) (after v (op_of w) x)
+      = subst (λ (q : Stage). Stands q (next w x) (after v (op_of w) x)) stage b2.stands in
+      let one : (after v (op_at t w) x).ended ≡ 1
+      = ap (λ (q : Stage). (after v (op_at q w) x).ended) (sym s) ∙ end.ended in
       omega (arith, one, same, z)
 
   abbrev Ends : Type 0
@@ -90,7 +98,8 @@ module _ (w : Walker) (v : SeatView) (b : Belongs w v) (x : ℕ) (may : MayAnswe
   ends-at Linking s a e = absurd (no-end Linking e s a.down.ended refl)
   ends-at Heading s a e = absurd (no-end Heading e s a.down.ended refl)
   ends-at Scanning s a e = absurd (no-end Scanning e s a.down.ended refl)
-  ends-at Claiming s a e = absurd (no-end Claiming e s a.may.down.ended (claimed_same (λ z. z.ended) v (size_below (state_in w)) x refl refl))
+  ends-at Claiming s a e
+      = absurd (no-end Claiming e s a.may.down.ended (claimed_same (λ z. z.ended) v (size_below (state_in w)) x refl refl))
   ends-at Writing s a e = absurd (no-end Writing e s a.may.down.ended refl)
   ends-at Publishing s a e = absurd (no-end Publishing e s a.may.down.ended refl)
   ends-at Tallying s a e = absurd (no-end Tallying e s a.climbs.up.hand.ended refl)

@@ -1,5 +1,7 @@
 -- What a look leaves of a view.
-use Rattle.std.proofs.Common.{◌≡◌, ◌≢◌, ℕ, suc, ◌+◌, ◌-◌, ◌*◌, ◌<◌, ◌≤◌, Bool, true, false, cond, List, [], ◌∷◌, length, Option, Some, refl, sym, ap, ◌∙◌, subst, arith, ⊎_elim}
+use Rattle.std.proofs.Common.{◌≡◌, ◌≢◌, ℕ, suc, ◌+◌, ◌-◌, ◌*◌, ◌<◌, ◌≤◌, Bool, true, false, cond}
+use Rattle.std.proofs.Common.{List, [], ◌∷◌, length, Option, Some, refl, sym, ap, ◌∙◌, subst, arith}
+use Rattle.std.proofs.Common.{⊎_elim}
 use Rattle.std.proofs.lemmas.Bool.{ne_eqb, eq-eqb, or_left, or_right}
 use Rattle.tree_words.specs.Settings.{Setting}
 use Rattle.tree_words.specs.Words.{Count, root_at, count_in}
@@ -11,9 +13,11 @@ use Rattle.tree_words.specs.Descents.{pairs_of}
 use Rattle.tree_words.specs.declared.steps.Op.TheVariants.{Look}
 use Rattle.tree_words.proofs.Blocks.GameLaws.{spot-same, in-node, in-parent}
 use Rattle.arena_rule.specs.Views.{SeatView, WordLoad}
-use Rattle.arena_rule.specs.Lookups.{is_known, told_below, load_of, IsLoaded, or_zero, tally_loaded, seen_loaded}
+use Rattle.arena_rule.specs.Lookups.{is_known, told_below, load_of, IsLoaded, or_zero, tally_loaded}
+use Rattle.arena_rule.specs.Lookups.{seen_loaded}
 use Rattle.arena_rule.specs.Fits.{IsChosen}
-use Rattle.arena_rule.specs.Afters.{after, looked, with_word, known_after, loads_after, is_count, node_of_link}
+use Rattle.arena_rule.specs.Afters.{after, looked, with_word, known_after, loads_after, is_count}
+use Rattle.arena_rule.specs.Afters.{node_of_link}
 use Rattle.arena_rule.specs.IsView.{IsView}
 use Rattle.arena_rule.proofs.KnownMore.{Grows, known_cases, known-more, known-kept}
 use Rattle.walker.specs.declared.ways.Level.{Level}
@@ -27,7 +31,8 @@ pub record Goes (v u : SeatView) (at : ℕ) : Type 0 where
   pub shape : u.shape ≡ v.shape
   pub known : (c : LinkedBlock) → In c v.known → In c u.known
   pub node : (x : ℕ) → is_known v x ≡ true → is_known u x ≡ true
-  pub state : (x : ℕ) → is_known v x ≡ true → node_state u.shape u.known x ≡ node_state v.shape v.known x
+  pub state : (x : ℕ) → is_known v x ≡ true
+      → node_state u.shape u.known x ≡ node_state v.shape v.known x
   pub loads : (i : ℕ) → at ≢ i → load_of u.loads i ≡ load_of v.loads i
 
 -- the word is not one of the counts by which a node of the block was chosen
@@ -37,17 +42,21 @@ pub record Untouched (c : LinkedBlock) (at : ℕ) : Type 0 where
   pub seen : (k : ℕ) → k < length c.cells → at ≢ child c k + 3
 
 -- a node's state if blocks may have become known
-pub state-known : (v : SeatView) (z b x : ℕ) → InOrder (root_at v.shape) (known_after v z b) → is_known v x ≡ true → node_state v.shape (known_after v z b) x ≡ node_state v.shape v.known x
+pub state-known : (v : SeatView) (z b x : ℕ) → InOrder (root_at v.shape) (known_after v z b)
+    → is_known v x ≡ true → node_state v.shape (known_after v z b) x ≡ node_state v.shape v.known x
 state-known v z b x g n = ⊎_elim
     (λ (q : Grows v z b). ap (λ (ks : List LinkedBlock). node_state v.shape ks x) q.is ∙ spot-same v.shape (told_below v z b) v.known x (subst (InOrder (root_at v.shape)) q.is g).0 n)
     (λ (e : known_after v z b ≡ v.known). ap (λ (ks : List LinkedBlock). node_state v.shape ks x) e)
     (known_cases v z b)
 
-load-else : (t : Bool) (at x i : ℕ) (loads : List WordLoad) → at ≢ i → load_of (cond t (record { word = at; value = x } ∷ loads) loads) i ≡ load_of loads i
+load-else : (t : Bool) (at x i : ℕ) (loads : List WordLoad) → at ≢ i
+    → load_of (cond t (record { word = at; value = x } ∷ loads) loads) i ≡ load_of loads i
 load-else false at x i loads ne = refl
-load-else true at x i loads ne = ap (λ (t : Bool). cond t (Some x) (load_of loads i)) (ne_eqb at i ne)
+load-else true at x i loads ne = ap (λ (t : Bool). cond t (Some x) (load_of loads i))
+    (ne_eqb at i ne)
 
-pub look-goes : (v : SeatView) (at x : ℕ) → v.width ≡ 1 → IsView (after v (Look at) x) → Goes v (after v (Look at) x) at
+pub look-goes : (v : SeatView) (at x : ℕ) → v.width ≡ 1 → IsView (after v (Look at) x)
+    → Goes v (after v (Look at) x) at
 unfolding with_word looked loads_after
 look-goes v at x one iu = record {
   shape = refl;
@@ -57,26 +66,34 @@ look-goes v at x one iu = record {
   loads = λ i ne. load-else (is_count v at) at x i v.loads ne;
 }
 
-load-here : (t : Bool) (at x i : ℕ) (loads : List WordLoad) → t ≡ true → at ≡ i → load_of (cond t (record { word = at; value = x } ∷ loads) loads) i ≡ Some x
+load-here : (t : Bool) (at x i : ℕ) (loads : List WordLoad) → t ≡ true → at ≡ i
+    → load_of (cond t (record { word = at; value = x } ∷ loads) loads) i ≡ Some x
 load-here false at x i loads e is = absurd (cc)
-load-here true at x i loads e is = ap (λ (t : Bool). cond t (Some x) (load_of loads i)) (eq-eqb at i is)
+load-here true at x i loads e is = ap (λ (t : Bool). cond t (Some x) (load_of loads i))
+    (eq-eqb at i is)
 
 -- a look at a tally or a seen word of a known node is its load
-pub look-tally : (v : SeatView) (at x y : ℕ) → is_known v y ≡ true → at ≡ y + 2 → load_of (after v (Look at) x).loads (y + 2) ≡ Some x
+pub look-tally : (v : SeatView) (at x y : ℕ) → is_known v y ≡ true → at ≡ y + 2
+    → load_of (after v (Look at) x).loads (y + 2) ≡ Some x
 unfolding with_word looked loads_after
 look-tally v at x y n e =
     let low : at - 2 ≡ y = omega arith in
-    load-here (is_count v at) at x (y + 2) v.loads (or_left (is_known v (at - 2)) (is_known v (at - 3)) (ap (is_known v) low ∙ n)) e
+    load-here (is_count v at) at x (y + 2) v.loads
+    (or_left (is_known v (at - 2)) (is_known v (at - 3)) (ap (is_known v) low ∙ n)) e
 
-pub look-seen : (v : SeatView) (at x y : ℕ) → is_known v y ≡ true → at ≡ y + 3 → load_of (after v (Look at) x).loads (y + 3) ≡ Some x
+pub look-seen : (v : SeatView) (at x y : ℕ) → is_known v y ≡ true → at ≡ y + 3
+    → load_of (after v (Look at) x).loads (y + 3) ≡ Some x
 unfolding with_word looked loads_after
 look-seen v at x y n e =
     let low : at - 3 ≡ y = omega arith in
-    load-here (is_count v at) at x (y + 3) v.loads (or_right (is_known v (at - 2)) (is_known v (at - 3)) (ap (is_known v) low ∙ n)) e
+    load-here (is_count v at) at x (y + 3) v.loads
+    (or_right (is_known v (at - 2)) (is_known v (at - 3)) (ap (is_known v) low ∙ n)) e
 
 -- the counts of children
 pub pairs-same : (p q p' q' : ℕ → Count) (y : ℕ) (cs : List ℕ)
-    → ((k : ℕ) → k < length cs → p (y + 4 * k) ≡ p' (y + 4 * k)) → ((k : ℕ) → k < length cs → q (y + 4 * k) ≡ q' (y + 4 * k)) → pairs_of p q y cs ≡ pairs_of p' q' y cs
+    → ((k : ℕ) → k < length cs → p (y + 4 * k) ≡ p' (y + 4 * k))
+    → ((k : ℕ) → k < length cs → q (y + 4 * k) ≡ q' (y + 4 * k))
+    → pairs_of p q y cs ≡ pairs_of p' q' y cs
 pairs-same p q p' q' y [] hp hq = refl
 pairs-same p q p' q' y (c ∷ cs) hp hq =
     let at : y + 4 * 0 ≡ y = omega arith in
@@ -101,18 +118,22 @@ module _ (v u : SeatView) (at : ℕ) (g : Goes v u at) where
 
   chosen-goes : (c : LinkedBlock) (y : ℕ) → Untouched c at → IsChosen v c y → IsChosen u c y
   chosen-goes c y t h =
-      let pairs : pairs_of (tally_loaded u) (seen_loaded u) (c.start + 4) c.cells ≡ pairs_of (tally_loaded v) (seen_loaded v) (c.start + 4) c.cells
-      = pairs-same (tally_loaded u) (seen_loaded u) (tally_loaded v) (seen_loaded v) (c.start + 4) c.cells
+      let pairs : pairs_of (tally_loaded u) (seen_loaded u) (c.start + 4) c.cells ≡ pairs_of
+      (tally_loaded v) (seen_loaded v) (c.start + 4) c.cells
+      = pairs-same (tally_loaded u) (seen_loaded u) (tally_loaded v) (seen_loaded v)
+      (c.start + 4) c.cells
       (λ k l. tally-goes (child c k) (t.tally k l)) (λ k l. seen-goes (child c k) (t.seen k l)) in
       record {
         parent = loaded-goes (c.parent + 2) t.parent h.parent;
         tallies = λ i l. loaded-goes (child c i + 2) (t.tally i l) (h.tallies i l);
         seen = λ i l. loaded-goes (child c i + 3) (t.seen i l) (h.seen i l);
-        choice = h.choice ∙ (λ i. child c ((search_game (sym g.shape i)).choose (sym (tally-goes c.parent t.parent) i) (sym pairs i)));
+        choice = h.choice
+            ∙ (λ i. child c ((search_game (sym g.shape i)).choose (sym (tally-goes c.parent t.parent) i) (sym pairs i)));
       }
 
   -- the levels of a way stay, if none of their counts is touched
-  pub way-goes : (way : List Level) (x : ℕ) → ((c : LinkedBlock) → In c v.known → c.start < x → Untouched c at) → OnWay v way x
+  pub way-goes : (way : List Level) (x : ℕ)
+      → ((c : LinkedBlock) → In c v.known → c.start < x → Untouched c at) → OnWay v way x
       → ((c : LinkedBlock) → In c v.known → c.parent < c.start) → OnWay u way x
   way-goes [] x t h above = h ∙ ap root_at (sym g.shape)
   way-goes (l ∷ way) x t h above =
@@ -132,9 +153,12 @@ module _ (v u : SeatView) (at : ℕ) (g : Goes v u at) where
       )
 
   -- and so does a walk that goes down
-  pub down-goes : (number node visits : ℕ) (state : NodeState) (way : List Level) → IsDown number node visits state way v
-      → at ≢ node + 2 → ((c : LinkedBlock) → In c v.known → c.start < node → Untouched c at) → ((c : LinkedBlock) → In c v.known → c.parent < c.start)
-      → u.ended ≡ v.ended → u.ticket ≡ v.ticket → u.adds ≡ v.adds → IsDown number node visits state way u
+  pub down-goes : (number node visits : ℕ) (state : NodeState) (way : List Level)
+      → IsDown number node visits state way v
+      → at ≢ node + 2 → ((c : LinkedBlock) → In c v.known → c.start < node → Untouched c at)
+      → ((c : LinkedBlock) → In c v.known → c.parent < c.start)
+      → u.ended ≡ v.ended → u.ticket ≡ v.ticket → u.adds ≡ v.adds
+      → IsDown number node visits state way u
   down-goes number node visits state way d ne t above e k a = record {
     ended = e ∙ d.ended;
     ticket = k ∙ d.ticket;
@@ -149,10 +173,15 @@ module _ (v u : SeatView) (at : ℕ) (g : Goes v u at) where
   }
 
 -- a word that is no count of a known node touches none
-pub no-count : (v : SeatView) (at : ℕ) → InOrder (root_at v.shape) v.known → ((x j : ℕ) → is_known v x ≡ true → 2 ≤ j → j < 4 → at ≢ x + j)
+pub no-count : (v : SeatView) (at : ℕ) → InOrder (root_at v.shape) v.known
+    → ((x j : ℕ) → is_known v x ≡ true → 2 ≤ j → j < 4 → at ≢ x + j)
     → (c : LinkedBlock) → In c v.known → Untouched c at
 no-count v at g h c i = record {
   parent = h c.parent 2 (in-parent (root_at v.shape) v.known c g i) (omega arith) (omega arith);
-  tally = λ k l. h (child c k) 2 (in-node (root_at v.shape) v.known c (child c k) i (child-has c k l)) (omega arith) (omega arith);
-  seen = λ k l. h (child c k) 3 (in-node (root_at v.shape) v.known c (child c k) i (child-has c k l)) (omega arith) (omega arith);
+  tally = λ k l. h (child c k) 2
+      (in-node (root_at v.shape) v.known c (child c k) i (child-has c k l)) (omega arith)
+      (omega arith);
+  seen = λ k l. h (child c k) 3
+      (in-node (root_at v.shape) v.known c (child c k) i (child-has c k l)) (omega arith)
+      (omega arith);
 }

@@ -1,5 +1,6 @@
 -- With an answer that may be given the walker can go on.
-use Rattle.std.proofs.Common.{◌≡◌, ◌⊎◌, ℕ, zero, suc, ◌+◌, ◌-◌, ◌<◌, ◌≤◌, true, List, [], ◌∷◌, length, take, refl, ap, subst, arith, ⊎_elim, inl, inr}
+use Rattle.std.proofs.Common.{◌≡◌, ◌⊎◌, ℕ, zero, suc, ◌+◌, ◌-◌, ◌<◌, ◌≤◌, true, List, [], ◌∷◌}
+use Rattle.std.proofs.Common.{length, take, refl, ap, subst, arith, ⊎_elim, inl, inr}
 use Rattle.hex_cells.specs.Sets.{has as has_cell}
 use Rattle.tree_words.specs.Settings.{Setting}
 use Rattle.tree_words.specs.Words.{Count, root_at, end_of, count_in}
@@ -21,7 +22,9 @@ use Rattle.walker.specs.declared.ways.Level.{Level}
 use Rattle.walker.specs.declared.scans.Phase.{Phase}
 use Rattle.walker.specs.declared.scans.Phase.TheVariants.{Move, Tally, Seen}
 use Rattle.walker.specs.declared.stages.Stage.{Stage}
-use Rattle.walker.specs.declared.stages.Stage.TheVariants.{Drawing, Rooting, Linking, Heading, Scanning, Claiming, Writing, Publishing, Tallying, Seeing, Noting, Ended}
+use Rattle.walker.specs.declared.stages.Stage.TheVariants.{Drawing, Rooting, Linking, Heading}
+use Rattle.walker.specs.declared.stages.Stage.TheVariants.{Scanning, Claiming, Writing, Publishing}
+use Rattle.walker.specs.declared.stages.Stage.TheVariants.{Tallying, Seeing, Noting, Ended}
 use Rattle.walker.specs.declared.machine.Walker.{Walker}
 use Rattle.walker.specs.Ways.{HasWords}
 use Rattle.walker.specs.Scans.{ScanData, CanScan, scan_on}
@@ -46,10 +49,12 @@ module _ (w : Walker) (v : SeatView) (b : Belongs w v) (x : ℕ) where
   small-end = omega (arith, b.view.setting.ranges.playouts, b.view.setting.ranges.words)
 
   known-small : (y : ℕ) → is_known v y ≡ true → y < PAST_WORDS
-  known-small y n = let q = node-inside v.shape v.known y b.view.known n in omega (arith, q, small-end)
+  known-small y n = let q = node-inside v.shape v.known y b.view.known n in
+      omega (arith, q, small-end)
 
   block-small : (c : LinkedBlock) → In c v.known → c.start + 4 < PAST_WORDS
-  block-small c i = let q = known-lies v.shape v.known c order b.view.known i in omega (arith, q.inside, small-end)
+  block-small c i = let q = known-lies v.shape v.known c order b.view.known i in
+      omega (arith, q.inside, small-end)
 
   link-small : (y : ℕ) → AnswersLink v y x → x < PAST_WORDS
   link-small y a = ⊎_elim
@@ -66,7 +71,8 @@ module _ (w : Walker) (v : SeatView) (b : Belongs w v) (x : ℕ) where
 
   way-node : (way : List Level) (y : ℕ) → OnWay v way y → y < PAST_WORDS
   way-node [] y e = omega (arith, e, small-end)
-  way-node (l ∷ way) y e = known-small y (in-node (root_at v.shape) v.known e.0.block y e.0.known e.0.node)
+  way-node (l ∷ way) y e
+      = known-small y (in-node (root_at v.shape) v.known e.0.block y e.0.known e.0.node)
 
   way-words : (way : List Level) (y : ℕ) → OnWay v way y → HasWords way
   way-words [] y e = tt
@@ -87,21 +93,25 @@ module _ (w : Walker) (v : SeatView) (b : Belongs w v) (x : ℕ) where
       }
 
   few-in : (c : Count) → AtMost v.shape.knobs.playouts c → AtMost MOST_COUNT c
-  few-in c h = let p = b.view.setting.ranges.playouts in (omega (arith, h.0, p), omega (arith, h.1, p))
+  few-in c h = let p = b.view.setting.ranges.playouts in
+      (omega (arith, h.0, p), omega (arith, h.1, p))
 
   -- the word of a child that is looked at next
   pub scan-small : AtChild w v → w.scan.at < PAST_WORDS
   scan-small a =
       let y : ℕ = child a.block w.scan.place in
       let k = in-child w.scan.phase v w.scan y a.scan.stands in
-      let inside = node-inside v.shape v.known y b.view.known (kid w v b x a w.scan.place (here w v b x a)) in
+      let inside = node-inside v.shape v.known y b.view.known
+      (kid w v b x a w.scan.place (here w v b x a)) in
       omega (arith, k, inside, small-end)
 
-  module _ (a : AtChild w v) (may : MayAnswer v (Look w.scan.at) x) (iu : IsView (after v (Look w.scan.at) x)) where
+  module _ (a : AtChild w v) (may : MayAnswer v (Look w.scan.at) x)
+      (iu : IsView (after v (Look w.scan.at) x)) where
     few-places : length a.block.cells ≤ 121
     few-places =
         let most = b.view.setting.position.most in
-        let f = few_cells w.shape.board.size (has_cell (set_in w)) (omega (arith, most, ap (λ (s : Setting). s.board.size) b.shape)) in
+        let f = few_cells w.shape.board.size (has_cell (set_in w))
+        (omega (arith, most, ap (λ (s : Setting). s.board.size) b.shape)) in
         omega (arith, f, ap length a.below.cells)
 
     can-look : CanScan w.scan x
@@ -110,14 +120,16 @@ module _ (w : Walker) (v : SeatView) (b : Belongs w v) (x : ℕ) where
         record {
           at = scan-small a;
           place = let h = here w v b x a in omega (arith, h, few-places);
-          tally = λ e. few-in (count_in w.scan.tally) (subst (λ (p : Phase). InChild p v w.scan y) e a.scan.stands).2;
+          tally = λ e. few-in (count_in w.scan.tally)
+              (subst (λ (p : Phase). InChild p v w.scan y) e a.scan.stands).2;
           seen = λ e.
               let at = (subst (λ (p : Phase). InChild p v w.scan y) e a.scan.stands).0 in
               let s = may.step.seen y (kid w v b x a w.scan.place (here w v b x a)) at in
               few-in (count_in x) (s.visits, s.wins);
         }
 
-    last-seen : w.scan.phase ≡ Seen → (scan_on Seen w.scan x).count ≤ (scan_on Seen w.scan x).place → MayChoose (record w { scan = scan_on Seen w.scan x })
+    last-seen : w.scan.phase ≡ Seen → (scan_on Seen w.scan x).count ≤ (scan_on Seen w.scan x).place
+        → MayChoose (record w { scan = scan_on Seen w.scan x })
     unfolding with_word looked
     last-seen e l =
         let u : SeatView = after v (Look w.scan.at) x in
@@ -135,7 +147,9 @@ module _ (w : Walker) (v : SeatView) (b : Belongs w v) (x : ℕ) where
           empty = cell-empty w u a.block d b.shape iu b.width k below l;
         }
 
-    last-at : (p : Phase) → w.scan.phase ≡ p → (scan_on p w.scan x).count ≤ (scan_on p w.scan x).place → MayChoose (record w { scan = scan_on p w.scan x })
+    last-at : (p : Phase) → w.scan.phase ≡ p
+        → (scan_on p w.scan x).count ≤ (scan_on p w.scan x).place
+        → MayChoose (record w { scan = scan_on p w.scan x })
     last-at Move e l = absurd (let q = a.scan.place in omega (arith, q, l))
     last-at Tally e l = absurd (let q = a.scan.place in omega (arith, q, l))
     last-at Seen e l = last-seen e l
@@ -145,16 +159,20 @@ module _ (w : Walker) (v : SeatView) (b : Belongs w v) (x : ℕ) where
 
   pub can-write : AtWrite w v → (w.node < PAST_WORDS) × (w.start < PAST_WORDS) × (w.at < PAST_WORDS)
   can-write a =
-      let q = b.view.held (record { start = w.start; size = size_below (state_in w); written = take (w.at - w.start) (block_words (own_block w)) }) a.held in
+      let q = b.view.held
+      (record { start = w.start; size = size_below (state_in w); written = take (w.at - w.start) (block_words (own_block w)) }) a.held in
       (known-small w.node a.may.down.known, omega (arith, q, small-end), omega (arith, q, small-end, a.at))
 
-  can-at : (t : Stage) → Stands t w v → MayAnswer v (op_at t w) x → IsView (after v (op_at t w) x) → CanGoAt t w x
+  can-at : (t : Stage) → Stands t w v → MayAnswer v (op_at t w) x → IsView (after v (op_at t w) x)
+      → CanGoAt t w x
   can-at Drawing a may iu = tt
   can-at Rooting a may iu = tt
-  can-at Linking a may iu = (known-small w.node a.down.known, link-small w.node (may.step.link w.node a.down.known a.at))
+  can-at Linking a may iu
+      = (known-small w.node a.down.known, link-small w.node (may.step.link w.node a.down.known a.at))
   can-at Heading a may iu = can-head a
   can-at Scanning a may iu = can-scan a may iu
-  can-at Claiming a may iu = (known-small w.node a.may.down.known, let m = may.step.most in omega (arith, m, small-end))
+  can-at Claiming a may iu
+      = (known-small w.node a.may.down.known, let m = may.step.most in omega (arith, m, small-end))
   can-at Writing a may iu = can-write a
   can-at Publishing a may iu = link-small w.node (may.step w.node a.may.down.known a.at)
   can-at Tallying a may iu = way-words w.way w.node a.climbs.way

@@ -8,11 +8,15 @@ use Rattle.walker.specs.Scans.{ScanData, child_in, kept, scan_on, scan_next}
 
 -- a part that keeping a child does not change
 module _ {A : Type 0} (f : ScanData → A) where
-  pub kept-same : (d : ScanData) (c : Child) → ((b v m : ℕ) (t : Bool) → f (record d { best = b; visits = v; most = m; fresh = t }) ≡ f d) → f (kept d c) ≡ f d
+  pub kept-same : (d : ScanData) (c : Child)
+      → ((b v m : ℕ) (t : Bool) → f (record d { best = b; visits = v; most = m; fresh = t }) ≡ f d)
+      → f (kept d c) ≡ f d
   unfolding kept
-  kept-same d c h = by d.fresh (c.visits == 0) (nat_lt d.most (score_in d.parent d.weight c)) (d.place == 0)
+  kept-same d c h = by d.fresh (c.visits == 0) (nat_lt d.most (score_in d.parent d.weight c))
+      (d.place == 0)
     where
-      by : (t u w x : Bool) → f (cond t d (cond u (record d { best = d.place; visits = 0; fresh = true })
+      by : (t u w x : Bool)
+          → f (cond t d (cond u (record d { best = d.place; visits = 0; fresh = true })
           (cond w (record d { best = d.place; visits = c.visits; most = score_in d.parent d.weight c }) (cond x (record d { visits = c.visits }) d)))) ≡ f d
       by true u w x = refl
       by false true w x = h d.place 0 d.most true
@@ -30,9 +34,11 @@ pub kept-count : (d : ScanData) (c : Child) → (kept d c).count ≡ d.count
 kept-count d c = kept-same (λ z. z.count) d c (λ b v m t. refl)
 
 -- keeping a child does not hang on where the scan looks
-pub kept-elsewhere : (d : ScanData) (c : Child) (at : ℕ) (p : Phase) → kept (record d { at = at; phase = p }) c ≡ record (kept d c) { at = at; phase = p }
+pub kept-elsewhere : (d : ScanData) (c : Child) (at : ℕ) (p : Phase)
+    → kept (record d { at = at; phase = p }) c ≡ record (kept d c) { at = at; phase = p }
 unfolding kept
-kept-elsewhere d c at p = by d.fresh (c.visits == 0) (nat_lt d.most (score_in d.parent d.weight c)) (d.place == 0)
+kept-elsewhere d c at p = by d.fresh (c.visits == 0) (nat_lt d.most (score_in d.parent d.weight c))
+    (d.place == 0)
   where
     e : ScanData
     e = record d { at = at; phase = p }
@@ -68,7 +74,8 @@ whole-child d m t s e = ends ∙ sym thrice
     ends : record k { at = k.at + 4; place = d.place + 1 } ≡ record k { at = d.at + 2 + 1 + 1; phase = Move; place = d.place + 1 }
     ends = λ i. record k { at = at-is i; phase = phase-is i; place = d.place + 1 }
 
-    thrice : scan_next (scan_next (scan_next d m) t) s ≡ record k { at = d.at + 2 + 1 + 1; phase = Move; place = d.place + 1 }
+    thrice : scan_next
+        (scan_next (scan_next d m) t) s ≡ record k { at = d.at + 2 + 1 + 1; phase = Move; place = d.place + 1 }
     thrice =
         ap (λ (p : Phase). scan_next (scan_next (scan_on p d m) t) s) e
         ∙ ap (λ (z : ScanData). record z { at = d.at + 2 + 1 + 1; phase = Move; place = d.place + 1 }) (kept-elsewhere f (child_in f s) (d.at + 2 + 1) Seen)

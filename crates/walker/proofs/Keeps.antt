@@ -7,7 +7,9 @@ use Rattle.arena_rule.specs.Afters.{after, with_word}
 use Rattle.arena_rule.specs.IsView.{IsView}
 use Rattle.arena_rule.proofs.ViewStays.{view-stays}
 use Rattle.walker.specs.declared.stages.Stage.{Stage}
-use Rattle.walker.specs.declared.stages.Stage.TheVariants.{Drawing, Rooting, Linking, Heading, Scanning, Claiming, Writing, Publishing, Tallying, Seeing, Noting, Ended}
+use Rattle.walker.specs.declared.stages.Stage.TheVariants.{Drawing, Rooting, Linking, Heading}
+use Rattle.walker.specs.declared.stages.Stage.TheVariants.{Scanning, Claiming, Writing, Publishing}
+use Rattle.walker.specs.declared.stages.Stage.TheVariants.{Tallying, Seeing, Noting, Ended}
 use Rattle.walker.specs.declared.machine.Walker.{Walker}
 use Rattle.walker.specs.Machine.{op_at, op_of, next_at, next}
 use Rattle.walker.specs.Belongs.{Belongs, Stands, AtEnd}
@@ -22,7 +24,8 @@ use Rattle.walker.proofs.KeepsAdds.{keeps-tally, keeps-seen, keeps-note}
 
 module _ (w : Walker) (v : SeatView) (b : Belongs w v) (x : ℕ) where
   -- the view afterwards is in order
-  pub view-after : (t : Stage) → Stands t w v → MayAnswer v (op_at t w) x → IsView (after v (op_at t w) x)
+  pub view-after : (t : Stage) → Stands t w v → MayAnswer v (op_at t w) x
+      → IsView (after v (op_at t w) x)
   view-after t st may = view-stays v b.view (op_at t w) x (fits-at w v b t st) may
 
   keeps-end : w.stage ≡ Ended → AtEnd w v → IsView (after v Done x) → Belongs w (after v Done x)
@@ -32,10 +35,12 @@ module _ (w : Walker) (v : SeatView) (b : Belongs w v) (x : ℕ) where
     view = iu;
     width = b.width;
     full = b.full;
-    stands = subst (λ (t : Stage). Stands t w (after v Done x)) (sym e) (record { ended = a.ended });
+    stands = subst (λ (t : Stage). Stands t w (after v Done x)) (sym e)
+        (record { ended = a.ended });
   }
 
-  keeps-at : (t : Stage) → w.stage ≡ t → Stands t w v → MayAnswer v (op_at t w) x → Belongs (next_at t w x) (after v (op_at t w) x)
+  keeps-at : (t : Stage) → w.stage ≡ t → Stands t w v → MayAnswer v (op_at t w) x
+      → Belongs (next_at t w x) (after v (op_at t w) x)
   keeps-at Drawing e a may = keeps-draw w v b x a (view-after Drawing a may)
   keeps-at Rooting e a may = keeps-root w v b x a may (view-after Rooting a may)
   keeps-at Linking e a may = keeps-link w v b x a may (view-after Linking a may)

@@ -1,12 +1,15 @@
 -- The claim and the writes of a new block keep Belongs.
-use Rattle.std.proofs.Common.{◌≡◌, ◌≢◌, ℕ, ◌+◌, ◌-◌, ◌<◌, ◌≤◌, true, cond, List, [], ◌∷◌, ◌++◌, length, take, get_or, Some, refl, sym, ap, ◌∙◌, subst, arith, ⊎_elim, inr, inl}
+use Rattle.std.proofs.Common.{◌≡◌, ◌≢◌, ℕ, ◌+◌, ◌-◌, ◌<◌, ◌≤◌, true, cond, List, [], ◌∷◌, ◌++◌}
+use Rattle.std.proofs.Common.{length, take, get_or, Some, refl, sym, ap, ◌∙◌, subst, arith, ⊎_elim}
+use Rattle.std.proofs.Common.{inr, inl}
 use Rattle.std.specs.Prelude.{option_map}
 use Rattle.std.proofs.lemmas.Bool.{cases_lt}
 use Rattle.std.proofs.lemmas.List.{take_more}
 use Rattle.std.proofs.lemmas.List.FromFn.{get_or-map-range_with_len}
 use Rattle.tree_words.specs.Settings.{Setting}
 use Rattle.tree_words.specs.Words.{root_at, end_of}
-use Rattle.tree_words.specs.Blocks.{LinkedBlock, In, size, has_node, is_node, link_of, is_header_or_move, header_or_move}
+use Rattle.tree_words.specs.Blocks.{LinkedBlock, In, size, has_node, is_node, link_of}
+use Rattle.tree_words.specs.Blocks.{is_header_or_move, header_or_move}
 use Rattle.tree_words.specs.Paths.{NodeState, node_state}
 use Rattle.tree_words.specs.Sequence.{size_below}
 use Rattle.tree_words.specs.declared.steps.Op.TheVariants.{Claim, Write}
@@ -24,7 +27,8 @@ use Rattle.walker.specs.declared.stages.Stage.{Stage}
 use Rattle.walker.specs.declared.stages.Stage.TheVariants.{Writing}
 use Rattle.walker.specs.declared.machine.Walker.{Walker}
 use Rattle.walker.specs.Machine.{state_in, own_block, word_of_block, at_leaf, claimed, written}
-use Rattle.walker.specs.Belongs.{Belongs, Stands, Down, IsDown, MayClaim, HoldsBlock, AtClaim, AtWrite}
+use Rattle.walker.specs.Belongs.{Belongs, Stands, Down, IsDown, MayClaim, HoldsBlock, AtClaim}
+use Rattle.walker.specs.Belongs.{AtWrite}
 use Rattle.walker.proofs.KnownLaws.{one-order, known-lies}
 use Rattle.walker.proofs.Going.{Goes, Untouched, down-goes}
 use Rattle.walker.proofs.LeafLaws.{leaf-stands, leaf-belongs}
@@ -32,7 +36,8 @@ use Rattle.walker.proofs.Fitting.{block_words-long}
 use Rattle.walker.proofs.Cases.{claimed-inside, claimed-past, written-next, written-last}
 
 -- a step that changes neither the known blocks nor the loads
-pub steps-go : (v u : SeatView) → u.shape ≡ v.shape → u.known ≡ v.known → u.loads ≡ v.loads → Goes v u 0
+pub steps-go : (v u : SeatView) → u.shape ≡ v.shape → u.known ≡ v.known → u.loads ≡ v.loads
+    → Goes v u 0
 steps-go v u s k l = record {
   shape = s;
   known = λ c i. subst (In c) (sym k) i;
@@ -45,14 +50,17 @@ pub no-touch : (c : LinkedBlock) → Untouched c 0
 no-touch c = record { parent = λ e. omega arith; tally = λ k l e. omega arith; seen = λ k l e. omega arith }
 
 -- a walk that goes down stays if loads stay
-pub still-down : (v u : SeatView) (number node visits : ℕ) (state : NodeState) (way : List Level) → IsView v → v.width ≡ 1 → Goes v u 0 → IsDown number node visits state way v
-    → u.ended ≡ v.ended → u.ticket ≡ v.ticket → u.adds ≡ v.adds → IsDown number node visits state way u
+pub still-down : (v u : SeatView) (number node visits : ℕ) (state : NodeState) (way : List Level)
+    → IsView v → v.width ≡ 1 → Goes v u 0 → IsDown number node visits state way v
+    → u.ended ≡ v.ended → u.ticket ≡ v.ticket → u.adds ≡ v.adds
+    → IsDown number node visits state way u
 still-down v u number node visits state way iv one g d e t a =
     down-goes v u 0 g number node visits state way d (λ z. omega arith) (λ c i l. no-touch c)
     (λ c i. (known-lies v.shape v.known c (one-order v iv one) iv.known i).above) e t a
 
 -- a known node but the root lies before each word behind all known blocks
-node-before : (v : SeatView) (y x : ℕ) → is_known v y ≡ true → y ≢ root_at v.shape → ((c : LinkedBlock) → In c v.known → c.start + size c ≤ x) → y < x
+node-before : (v : SeatView) (y x : ℕ) → is_known v y ≡ true → y ≢ root_at v.shape
+    → ((c : LinkedBlock) → In c v.known → c.start + size c ≤ x) → y < x
 node-before v y x n ne h = ⊎_elim
     (λ (e : y ≡ root_at v.shape). absurd (ne e))
     (λ (q : (c : LinkedBlock) × In c v.known × (has_node c y ≡ true)). let p = has-at q.0 y q.2 in let l = h q.0 q.1 in omega (arith, p.1, p.2, l))
@@ -60,14 +68,17 @@ node-before v y x n ne h = ⊎_elim
 
 block-word : (b : LinkedBlock) (i : ℕ) → i < size b → get_or (block_words b) i 0 ≡ word_of_block b i
 unfolding block_words
-block-word b i l = get_or-map-range_with_len (λ j. cond (is_header_or_move j) (header_or_move b j) 0) 0 (size b) i i 0 l (zero-plus i)
+block-word b i l
+    = get_or-map-range_with_len (λ j. cond (is_header_or_move j) (header_or_move b j) 0) 0
+    (size b) i i 0 l (zero-plus i)
   where
     zero-plus : (i : ℕ) → 0 + i ≡ i
     zero-plus i = omega arith
 
 module _ (w : Walker) (v : SeatView) (b : Belongs w v) (x : ℕ) where
   -- the node may get a block as before
-  still-claim : (u : SeatView) → Goes v u 0 → u.known ≡ v.known → u.full ≡ v.full → u.ended ≡ v.ended → u.ticket ≡ v.ticket → u.adds ≡ v.adds → MayClaim w v → MayClaim w u
+  still-claim : (u : SeatView) → Goes v u 0 → u.known ≡ v.known → u.full ≡ v.full
+      → u.ended ≡ v.ended → u.ticket ≡ v.ticket → u.adds ≡ v.adds → MayClaim w v → MayClaim w u
   still-claim u g k f e t a m = record {
     down = still-down v u w.number w.node w.visits (state_in w) w.way b.view b.width g m.down e t a;
     below = λ z. m.below (z ∙ ap root_at g.shape);
@@ -77,18 +88,23 @@ module _ (w : Walker) (v : SeatView) (b : Belongs w v) (x : ℕ) where
     room = f ∙ m.room;
   }
 
-  module _ (a : AtClaim w v) (may : MayAnswer v (Claim (size_below (state_in w))) x) (iu : IsView (after v (Claim (size_below (state_in w))) x)) where
+  module _ (a : AtClaim w v) (may : MayAnswer v (Claim (size_below (state_in w))) x)
+      (iu : IsView (after v (Claim (size_below (state_in w))) x)) where
     claim-inside : x + size_below (state_in w) ≤ end_of v.shape
-        → claimed_at v (size_below (state_in w)) x ≡ record v { held = Some (record { start = x; size = size_below (state_in w); written = [] }); claimed = v.claimed + size_below (state_in w) }
-        → Belongs (record w { stage = Writing; start = x; at = x }) (after v (Claim (size_below (state_in w))) x)
+        → claimed_at v
+        (size_below (state_in w)) x ≡ record v { held = Some (record { start = x; size = size_below (state_in w); written = [] }); claimed = v.claimed + size_below (state_in w) }
+        → Belongs (record w { stage = Writing; start = x; at = x })
+        (after v (Claim (size_below (state_in w))) x)
     unfolding with_word
     claim-inside l e =
         let u : SeatView = after v (Claim (size_below (state_in w))) x in
         let shape : u.shape ≡ v.shape = ap (λ (z : SeatView). z.shape) e in
         let known : u.known ≡ v.known = ap (λ (z : SeatView). z.known) e in
         let full : u.full ≡ v.full = ap (λ (z : SeatView). z.full) e in
-        let m : MayClaim w u = still-claim u (steps-go v u shape known (ap (λ (z : SeatView). z.loads) e)) known full
-        (ap (λ (z : SeatView). z.ended) e) (ap (λ (z : SeatView). z.ticket) e) (ap (λ (z : SeatView). z.adds) e) a.may in
+        let m : MayClaim w u
+        = still-claim u (steps-go v u shape known (ap (λ (z : SeatView). z.loads) e)) known full
+        (ap (λ (z : SeatView). z.ended) e) (ap (λ (z : SeatView). z.ticket) e)
+        (ap (λ (z : SeatView). z.adds) e) a.may in
         let none : x - x ≡ 0 = omega arith in
         record {
           shape = shape ∙ b.shape;
@@ -104,16 +120,20 @@ module _ (w : Walker) (v : SeatView) (b : Belongs w v) (x : ℕ) where
           };
         }
 
-    claim-past : claimed_at v (size_below (state_in w)) x ≡ record v { full = true } → Belongs (at_leaf (record w { full = true })) (after v (Claim (size_below (state_in w))) x)
+    claim-past : claimed_at v (size_below (state_in w)) x ≡ record v { full = true }
+        → Belongs (at_leaf (record w { full = true })) (after v (Claim (size_below (state_in w))) x)
     unfolding with_word
     claim-past e =
         let u : SeatView = after v (Claim (size_below (state_in w))) x in
         let shape : u.shape ≡ v.shape = ap (λ (z : SeatView). z.shape) e in
         let one : u.width ≡ 1 = ap (λ (z : SeatView). z.width) e ∙ b.width in
-        let g : Goes v u 0 = steps-go v u shape (ap (λ (z : SeatView). z.known) e) (ap (λ (z : SeatView). z.loads) e) in
+        let g : Goes v u 0 = steps-go v u shape (ap (λ (z : SeatView). z.known) e)
+        (ap (λ (z : SeatView). z.loads) e) in
         let full : u.full ≡ true = ap (λ (z : SeatView). z.full) e in
-        let down : Down w u = still-down v u w.number w.node w.visits (state_in w) w.way b.view b.width g a.may.down
-        (ap (λ (z : SeatView). z.ended) e) (ap (λ (z : SeatView). z.ticket) e) (ap (λ (z : SeatView). z.adds) e) in
+        let down : Down w u
+        = still-down v u w.number w.node w.visits (state_in w) w.way b.view b.width g a.may.down
+        (ap (λ (z : SeatView). z.ended) e) (ap (λ (z : SeatView). z.ticket) e)
+        (ap (λ (z : SeatView). z.adds) e) in
         leaf-belongs (record w { full = true }) u (shape ∙ b.shape) iu one full
         (leaf-stands (record w { full = true }) u (shape ∙ b.shape) (one-order u iu one) iu.known down
         (ap (λ (z : SeatView). z.held) e ∙ a.held) (λ z. a.may.below (z ∙ ap root_at shape))
@@ -127,10 +147,12 @@ module _ (w : Walker) (v : SeatView) (b : Belongs w v) (x : ℕ) where
         ⊎_elim
         (λ (q : (x + n ≤ end_of v.shape) × (claimed_at v n x ≡ record v { held = Some (record { start = x; size = n; written = [] }); claimed = v.claimed + n })).
         let l = q.0 in
-        subst (λ (z : Walker). Belongs z u) (sym (claimed-inside w x (omega (arith, l, end)))) (claim-inside q.0 q.1))
+        subst (λ (z : Walker). Belongs z u) (sym (claimed-inside w x (omega (arith, l, end))))
+        (claim-inside q.0 q.1))
         (λ (q : (end_of v.shape < x + n) × (claimed_at v n x ≡ record v { full = true })).
         let l = q.0 in
-        subst (λ (z : Walker). Belongs z u) (sym (claimed-past w x (omega (arith, l, end)))) (claim-past q.1))
+        subst (λ (z : Walker). Belongs z u) (sym (claimed-past w x (omega (arith, l, end))))
+        (claim-past q.1))
         (claimed_cases v n x)
 
   module _ (stage : w.stage ≡ Writing) (a : AtWrite w v)
@@ -143,17 +165,23 @@ module _ (w : Walker) (v : SeatView) (b : Belongs w v) (x : ℕ) where
         let n : ℕ = w.at - w.start in
         let value : ℕ = word_of_block (own_block w) n in
         let few : n < size (own_block w) = omega (arith, a.at) in
-        let long : n < length (block_words (own_block w)) = omega (arith, block_words-long (own_block w), few) in
-        let words : take n (block_words (own_block w)) ++ value ∷ [] ≡ take (n + 1) (block_words (own_block w))
-        = ap (λ (z : ℕ). take n (block_words (own_block w)) ++ z ∷ []) (sym (block-word (own_block w) n few)) ∙ sym (take_more (block_words (own_block w)) n 0 long) in
+        let long : n < length (block_words (own_block w))
+        = omega (arith, block_words-long (own_block w), few) in
+        let words : take n (block_words (own_block w)) ++ value ∷ [] ≡ take (n + 1)
+        (block_words (own_block w))
+        = ap (λ (z : ℕ). take n (block_words (own_block w)) ++ z ∷ [])
+        (sym (block-word (own_block w) n few))
+        ∙ sym (take_more (block_words (own_block w)) n 0 long) in
         ap (option_map (written_more value)) a.held
         ∙ ap (λ (ws : List ℕ). Some (record { start = w.start; size = size_below (state_in w); written = ws })) words
 
     write-may : MayClaim w (after v (Write w.at (word_of_block (own_block w) (w.at - w.start))) x)
     unfolding with_word wrote
-    write-may = still-claim (after v (Write w.at (word_of_block (own_block w) (w.at - w.start))) x) (steps-go v (after v (Write w.at (word_of_block (own_block w) (w.at - w.start))) x) refl refl refl) refl refl refl refl refl a.may
+    write-may = still-claim (after v (Write w.at (word_of_block (own_block w) (w.at - w.start))) x)
+        (steps-go v (after v (Write w.at (word_of_block (own_block w) (w.at - w.start))) x) refl refl refl) refl refl refl refl refl a.may
 
-    pub keeps-write : Belongs (written w) (after v (Write w.at (word_of_block (own_block w) (w.at - w.start))) x)
+    pub keeps-write : Belongs (written w)
+        (after v (Write w.at (word_of_block (own_block w) (w.at - w.start))) x)
     unfolding with_word wrote
     keeps-write =
         let u : SeatView = after v (Write w.at (word_of_block (own_block w) (w.at - w.start))) x in
@@ -167,12 +195,13 @@ module _ (w : Walker) (v : SeatView) (b : Belongs w v) (x : ℕ) where
           view = iu;
           width = b.width;
           full = b.full;
-          stands = subst (λ (t : Stage). Stands t (record w { at = w.at + 1 }) u) (sym stage) (record {
-            may = record { down = m.down; below = m.below; vacant = m.vacant; visits = m.visits; some = m.some; room = m.room };
-            above = a.above;
-            at = (omega (arith, a.at), l);
-            held = held (w.at + 1 - w.start) (omega (arith, a.at));
-          });
+          stands = subst (λ (t : Stage). Stands t (record w { at = w.at + 1 }) u)
+              (sym stage) (record {
+                may = record { down = m.down; below = m.below; vacant = m.vacant; visits = m.visits; some = m.some; room = m.room };
+                above = a.above;
+                at = (omega (arith, a.at), l);
+                held = held (w.at + 1 - w.start) (omega (arith, a.at));
+              });
         }))
         (λ (l : w.start + size_below (state_in w) ≤ w.at + 1). subst goal (sym (written-last w l)) (record {
           shape = b.shape;

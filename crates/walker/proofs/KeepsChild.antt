@@ -18,25 +18,32 @@ use Rattle.walker.specs.Machine.{chosen, scanned}
 use Rattle.walker.specs.Belongs.{Belongs, Stands, InChild, AtChild, AtLink}
 use Rattle.walker.proofs.Going.{look-tally}
 use Rattle.walker.proofs.KeepsDown.{look-down}
-use Rattle.walker.proofs.KeepsScan.{here, kid, move-clear, count-down, count-else, below-after, in-its-child}
+use Rattle.walker.proofs.KeepsScan.{here, kid, move-clear, count-down, count-else, below-after}
+use Rattle.walker.proofs.KeepsScan.{in-its-child}
 use Rattle.walker.proofs.KeepsChoice.{Looked, seen-looked}
 use Rattle.walker.proofs.KeepsLast.{looked-next, looked-last}
 use Rattle.walker.proofs.Cases.{scanned-next, scanned-last}
 
 -- if the walker is at its node's link after the choice
-pub chosen-belongs : (w : Walker) (v : SeatView) → v.shape ≡ w.shape → IsView v → v.width ≡ 1 → v.full ≡ w.full → AtLink (chosen w) v → Belongs (chosen w) v
+pub chosen-belongs : (w : Walker) (v : SeatView) → v.shape ≡ w.shape → IsView v → v.width ≡ 1
+    → v.full ≡ w.full → AtLink (chosen w) v → Belongs (chosen w) v
 unfolding chosen
 chosen-belongs w v s iv one f t = record { shape = s; view = iv; width = one; full = f; stands = t }
 
-module _ (w : Walker) (v : SeatView) (b : Belongs w v) (x : ℕ) (stage : w.stage ≡ Scanning) (a : AtChild w v) (may : MayAnswer v (Look w.scan.at) x)
+module _ (w : Walker) (v : SeatView) (b : Belongs w v) (x : ℕ) (stage : w.stage ≡ Scanning)
+    (a : AtChild w v) (may : MayAnswer v (Look w.scan.at) x)
     (iu : IsView (after v (Look w.scan.at) x)) where
   -- the scan goes on in the block
-  goes-on : (d : ScanData) → scan_next w.scan x ≡ d → d.place < d.count → AtChild (record w { scan = d }) (after v (Look w.scan.at) x) → Belongs (scanned w x) (after v (Look w.scan.at) x)
+  goes-on : (d : ScanData) → scan_next w.scan x ≡ d → d.place < d.count
+      → AtChild (record w { scan = d }) (after v (Look w.scan.at) x)
+      → Belongs (scanned w x) (after v (Look w.scan.at) x)
   unfolding with_word looked
   goes-on d e l t =
       let u : SeatView = after v (Look w.scan.at) x in
-      let less : (scan_next w.scan x).place < (scan_next w.scan x).count = omega (arith, ap (λ (z : ScanData). z.place) e, ap (λ (z : ScanData). z.count) e, l) in
-      let is : scanned w x ≡ record w { scan = d } = scanned-next w x less ∙ ap (λ (z : ScanData). record w { scan = z }) e in
+      let less : (scan_next w.scan x).place < (scan_next w.scan x).count
+      = omega (arith, ap (λ (z : ScanData). z.place) e, ap (λ (z : ScanData). z.count) e, l) in
+      let is : scanned w x ≡ record w { scan = d } = scanned-next w x less
+      ∙ ap (λ (z : ScanData). record w { scan = z }) e in
       let now : Belongs (record w { scan = d }) u = record {
         shape = b.shape;
         view = iu;
@@ -52,7 +59,8 @@ module _ (w : Walker) (v : SeatView) (b : Belongs w v) (x : ℕ) (stage : w.stag
       let y : ℕ = child a.block w.scan.place in
       let at : w.scan.at ≡ y = subst (λ (p : Phase). InChild p v w.scan y) e a.scan.stands in
       let clear = move-clear w v b x a at in
-      let next : scan_next w.scan x ≡ record w.scan { at = w.scan.at + 2; phase = Tally } = ap (λ (p : Phase). scan_on p w.scan x) e in
+      let next : scan_next w.scan x ≡ record w.scan { at = w.scan.at + 2; phase = Tally }
+      = ap (λ (p : Phase). scan_on p w.scan x) e in
       goes-on (record w.scan { at = w.scan.at + 2; phase = Tally }) next a.scan.place (record {
         down = look-down w v b x w.scan.at a.down iu clear;
         held = a.held;
@@ -69,13 +77,15 @@ module _ (w : Walker) (v : SeatView) (b : Belongs w v) (x : ℕ) (stage : w.stag
       let y : ℕ = child a.block w.scan.place in
       let at : w.scan.at ≡ y + 2 = subst (λ (p : Phase). InChild p v w.scan y) e a.scan.stands in
       let node : is_known v y ≡ true = kid w v b x a w.scan.place (here w v b x a) in
-      let next : scan_next w.scan x ≡ record w.scan { at = w.scan.at + 1; phase = Seen; tally = x } = ap (λ (p : Phase). scan_on p w.scan x) e in
+      let next : scan_next w.scan x ≡ record w.scan { at = w.scan.at + 1; phase = Seen; tally = x }
+      = ap (λ (p : Phase). scan_on p w.scan x) e in
       let counts = may.step.tally y node at in
       goes-on (record w.scan { at = w.scan.at + 1; phase = Seen; tally = x }) next a.scan.place (record {
         down = count-down w v b x a 2 (omega arith) (omega arith) at iu;
         held = a.held;
         block = a.block;
-        below = below-after w v b x a iu (record w.scan { at = w.scan.at + 1; phase = Seen; tally = x });
+        below = below-after w v b x a iu
+            (record w.scan { at = w.scan.at + 1; phase = Seen; tally = x });
         scan = in-its-child w v b x a iu (w.scan.at + 1) x Seen
             (count-else w v b x a 2 (omega arith) (omega arith) at)
             (omega (arith, at), look-tally v w.scan.at x y node at, (counts.visits, counts.wins));
@@ -91,8 +101,10 @@ module _ (w : Walker) (v : SeatView) (b : Belongs w v) (x : ℕ) (stage : w.stag
       ⊎_elim
       (λ (l : d.place < d.count). goes-on d next l (looked-next w u a.block d k (below-after w v b x a iu d) a.held l))
       (λ (l : d.count ≤ d.place).
-      let last : (scan_next w.scan x).count ≤ (scan_next w.scan x).place = omega (arith, ap (λ (z : ScanData). z.place) next, ap (λ (z : ScanData). z.count) next, l) in
-      let is : scanned w x ≡ chosen (record w { scan = d }) = scanned-last w x last ∙ ap (λ (z : ScanData). chosen (record w { scan = z })) next in
+      let last : (scan_next w.scan x).count ≤ (scan_next w.scan x).place
+      = omega (arith, ap (λ (z : ScanData). z.place) next, ap (λ (z : ScanData). z.count) next, l) in
+      let is : scanned w x ≡ chosen (record w { scan = d }) = scanned-last w x last
+      ∙ ap (λ (z : ScanData). chosen (record w { scan = z })) next in
       subst (λ (z : Walker). Belongs z u) (sym is)
       (chosen-belongs (record w { scan = d }) u b.shape iu b.width b.full (looked-last w u a.block d b.shape iu b.width k (below-after w v b x a iu d) l a.held)))
       (cases_lt d.place d.count)

@@ -1,5 +1,6 @@
 -- The look at a child's seen word.
-use Rattle.std.proofs.Common.{◌≡◌, ◌≢◌, ◌⊎◌, ℕ, ◌+◌, ◌<◌, ◌≤◌, [], ◌∷◌, ◌++◌, length, Option, refl, sym, ap, ◌∙◌, subst, arith, ⊎_elim, inl, inr}
+use Rattle.std.proofs.Common.{◌≡◌, ◌≢◌, ◌⊎◌, ℕ, ◌+◌, ◌<◌, ◌≤◌, [], ◌∷◌, ◌++◌, length, Option, refl}
+use Rattle.std.proofs.Common.{sym, ap, ◌∙◌, subst, arith, ⊎_elim, inl, inr}
 use Rattle.std.proofs.lemmas.Bool.{cases_lt}
 use Rattle.uct_table.specs.Choice.{Child}
 use Rattle.tree_words.specs.Words.{count_in}
@@ -37,7 +38,8 @@ pub record Looked (w : Walker) (u : SeatView) (c : LinkedBlock) (d : ScanData) :
   pub few : d.visits ≤ u.shape.knobs.playouts
   pub keeps : KeepsBest d (children_loaded u c d.place)
 
-module _ (w : Walker) (v : SeatView) (b : Belongs w v) (x : ℕ) (a : AtChild w v) (phase : w.scan.phase ≡ Seen)
+module _ (w : Walker) (v : SeatView) (b : Belongs w v) (x : ℕ) (a : AtChild w v)
+    (phase : w.scan.phase ≡ Seen)
     (may : MayAnswer v (Look w.scan.at) x) (iu : IsView (after v (Look w.scan.at) x)) where
   stands : InChild Seen v w.scan (child a.block w.scan.place)
   stands = subst (λ (p : Phase). InChild p v w.scan (child a.block w.scan.place)) phase a.scan.stands
@@ -52,14 +54,16 @@ module _ (w : Walker) (v : SeatView) (b : Belongs w v) (x : ℕ) (a : AtChild w 
   tally-kept : (k : ℕ) → k ≤ w.scan.place → w.scan.at ≢ child a.block k + 2
   tally-kept k l e = let s = stands.0 in omega (arith, s, e, l)
 
-  loads-tally : (i : ℕ) → i < w.scan.place + 1 → IsLoaded (after v (Look w.scan.at) x) (child a.block i + 2)
+  loads-tally : (i : ℕ) → i < w.scan.place + 1
+      → IsLoaded (after v (Look w.scan.at) x) (child a.block i + 2)
   loads-tally i l = ⊎_elim
       (λ (m : i < w.scan.place). loaded-goes v (after v (Look w.scan.at) x) w.scan.at (goes w v b x a iu) (child a.block i + 2) (tally-kept i (omega arith)) (a.scan.tallies i m))
       (λ (e : i ≡ w.scan.place). subst (λ (k : ℕ). IsLoaded (after v (Look w.scan.at) x) (child a.block k + 2)) (sym e)
       (loaded-goes v (after v (Look w.scan.at) x) w.scan.at (goes w v b x a iu) (child a.block w.scan.place + 2) (tally-kept w.scan.place (omega arith)) (w.scan.tally, stands.1)))
       (one-less i w.scan.place l)
 
-  loads-seen : (i : ℕ) → i < w.scan.place + 1 → IsLoaded (after v (Look w.scan.at) x) (child a.block i + 3)
+  loads-seen : (i : ℕ) → i < w.scan.place + 1
+      → IsLoaded (after v (Look w.scan.at) x) (child a.block i + 3)
   loads-seen i l = ⊎_elim
       (λ (m : i < w.scan.place). loaded-goes v (after v (Look w.scan.at) x) w.scan.at (goes w v b x a iu) (child a.block i + 3) (λ e. let s = stands.0 in omega (arith, s, e, m)) (a.scan.seen i m))
       (λ (e : i ≡ w.scan.place). subst (λ (k : ℕ). IsLoaded (after v (Look w.scan.at) x) (child a.block k + 3)) (sym e)
@@ -67,23 +71,31 @@ module _ (w : Walker) (v : SeatView) (b : Belongs w v) (x : ℕ) (a : AtChild w 
       (one-less i w.scan.place l)
 
   -- the counts of the child in hand
-  child-is : child_of (tally_loaded (after v (Look w.scan.at) x) (child a.block w.scan.place), seen_loaded (after v (Look w.scan.at) x) (child a.block w.scan.place)) ≡ child_in w.scan x
+  child-is : child_of
+      (tally_loaded (after v (Look w.scan.at) x) (child a.block w.scan.place), seen_loaded (after v (Look w.scan.at) x) (child a.block w.scan.place)) ≡ child_in w.scan x
   child-is =
       let y : ℕ = child a.block w.scan.place in
       let u : SeatView = after v (Look w.scan.at) x in
-      let tally : tally_loaded u y ≡ count_in w.scan.tally = tally-goes v u w.scan.at (goes w v b x a iu) y (tally-kept w.scan.place (omega arith)) ∙ ap (λ (o : Option ℕ). count_in (or_zero o)) stands.1 in
-      let seen : seen_loaded u y ≡ count_in x = ap (λ (o : Option ℕ). count_in (or_zero o)) (look-seen v w.scan.at x y (kid w v b x a w.scan.place (here w v b x a)) stands.0) in
+      let tally : tally_loaded u y ≡ count_in w.scan.tally
+      = tally-goes v u w.scan.at (goes w v b x a iu) y (tally-kept w.scan.place (omega arith))
+      ∙ ap (λ (o : Option ℕ). count_in (or_zero o)) stands.1 in
+      let seen : seen_loaded u y ≡ count_in x
+      = ap (λ (o : Option ℕ). count_in (or_zero o))
+      (look-seen v w.scan.at x y (kid w v b x a w.scan.place (here w v b x a)) stands.0) in
       λ i. child_of (tally i, seen i)
 
-  kept-now : KeepsBest then (children_loaded (after v (Look w.scan.at) x) a.block (w.scan.place + 1))
+  kept-now : KeepsBest then
+      (children_loaded (after v (Look w.scan.at) x) a.block (w.scan.place + 1))
   kept-now =
       let u : SeatView = after v (Look w.scan.at) x in
-      let few : w.scan.place ≤ length a.block.cells = (let h = here w v b x a in omega (arith, h)) in
+      let few : w.scan.place ≤ length a.block.cells
+      = (let h = here w v b x a in omega (arith, h)) in
       let same : children_loaded u a.block w.scan.place ≡ children_loaded v a.block w.scan.place
       = children-same v u a.block w.scan.place few
       (λ k l. tally-goes v u w.scan.at (goes w v b x a iu) (child a.block k) (tally-kept k (omega arith)))
       (λ k l. seen-goes v u w.scan.at (goes w v b x a iu) (child a.block k) (λ e. let s = stands.0 in omega (arith, s, e, l))) in
-      let more : children_loaded u a.block (w.scan.place + 1) ≡ children_loaded v a.block w.scan.place ++ child_in w.scan x ∷ []
+      let more : children_loaded u a.block
+      (w.scan.place + 1) ≡ children_loaded v a.block w.scan.place ++ child_in w.scan x ∷ []
       = children-push u a.block w.scan.place (here w v b x a) ∙ (λ i. same i ++ child-is i ∷ []) in
       subst (KeepsBest then) (sym more)
       (keeps-more w.scan (child_in w.scan x) (w.scan.at + 1) Move (children_loaded v a.block w.scan.place) (children-long v a.block w.scan.place few) a.scan.keeps)

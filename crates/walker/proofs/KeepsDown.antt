@@ -1,5 +1,6 @@
 -- The look at a link keeps Belongs.
-use Rattle.std.proofs.Common.{◌≡◌, ◌≢◌, ◌⊎◌, ℕ, zero, suc, ◌+◌, ◌<◌, ◌≤◌, Bool, true, false, cond, List, ◌∷◌, length, refl, sym, ap, ◌∙◌, subst, arith, ⊎_elim, inl, inr}
+use Rattle.std.proofs.Common.{◌≡◌, ◌≢◌, ◌⊎◌, ℕ, zero, suc, ◌+◌, ◌<◌, ◌≤◌, Bool, true, false, cond}
+use Rattle.std.proofs.Common.{List, ◌∷◌, length, refl, sym, ap, ◌∙◌, subst, arith, ⊎_elim, inl, inr}
 use Rattle.std.specs.Prelude.{◌==◌, ◌&&◌, not, nat_lt, nat_le}
 use Rattle.std.proofs.lemmas.Bool.{cases_Bool, cases_eq, and_parts, leb-false, leb-true, ltb-true}
 use Rattle.std.proofs.lemmas.Bool.Decides.{nat_tests}
@@ -36,7 +37,8 @@ known-none v z = by (is_known v z) (known_link v z == 0)
     by false q = refl
 
 -- A block below the node is known if its link was found.
-pub found-below : (v : SeatView) (z b : ℕ) → is_known v z ≡ true → AnswersLink v z b → b ≢ 0 → ((c : LinkedBlock) → In c v.known → In c (known_after v z b))
+pub found-below : (v : SeatView) (z b : ℕ) → is_known v z ≡ true → AnswersLink v z b → b ≢ 0
+    → ((c : LinkedBlock) → In c v.known → In c (known_after v z b))
     → (c : LinkedBlock) × In c (known_after v z b) × (c.start ≡ b) × (c.parent ≡ z)
 found-below v z b n a ne stays = ⊎_elim
     (λ (e : known_link v z ≡ 0). (told_below v z b, subst (In (told_below v z b)) (sym (told-known v z b n e ne)) (inl refl), refl, refl))
@@ -50,7 +52,8 @@ found-below v z b n a ne stays = ⊎_elim
     none-or-some (suc n) = inr (omega arith)
 
 -- a node that asks for no block is a leaf
-asks-not : (full t u : Bool) → (not full && (t && u)) ≡ false → (t ≡ false) ⊎ ((u ≡ false) ⊎ (full ≡ true))
+asks-not : (full t u : Bool) → (not full && (t && u)) ≡ false
+    → (t ≡ false) ⊎ ((u ≡ false) ⊎ (full ≡ true))
 asks-not true t u e = inr (inr refl)
 asks-not false true true e = absurd (cc)
 asks-not false true false e = inr (inl refl)
@@ -71,16 +74,22 @@ module _ (w : Walker) (v : SeatView) (b : Belongs w v) (x : ℕ) where
   above c i = (known-lies v.shape v.known c order b.view.known i).above
 
   -- after a look at a word that is no count the walk stands as before
-  pub look-down : (at : ℕ) → Down w v → IsView (after v (Look at) x) → ((y j : ℕ) → is_known v y ≡ true → 2 ≤ j → j < 4 → at ≢ y + j) → Down w (after v (Look at) x)
+  pub look-down : (at : ℕ) → Down w v → IsView (after v (Look at) x)
+      → ((y j : ℕ) → is_known v y ≡ true → 2 ≤ j → j < 4 → at ≢ y + j) → Down w (after v (Look at) x)
   unfolding with_word looked
   look-down at d iu clear =
-      down-goes v (after v (Look at) x) at (look-goes v at x b.width iu) w.number w.node w.visits (state_in w) w.way d
-      (clear w.node 2 d.known (omega arith) (omega arith)) (λ c i l. no-count v at order clear c i) above refl refl refl
+      down-goes v (after v (Look at) x) at (look-goes v at x b.width iu) w.number w.node w.visits
+      (state_in w) w.way d
+      (clear w.node 2 d.known (omega arith) (omega arith))
+      (λ c i l. no-count v at order clear c i) above refl refl refl
 
   -- the link of the node where the walk stands
-  module _ (a : AtLink w v) (may : MayAnswer v (Look w.at) x) (iu : IsView (after v (Look w.at) x)) where
+  module _ (a : AtLink w v) (may : MayAnswer v (Look w.at) x)
+      (iu : IsView (after v (Look w.at) x)) where
     link-clear : (y j : ℕ) → is_known v y ≡ true → 2 ≤ j → j < 4 → w.at ≢ y + j
-    link-clear y j n l m e = let is = nodes-apart (root_at v.shape) v.known w.node y 1 j order a.down.known n (omega arith) m (sym a.at ∙ e) in omega (arith, is, a.at, e)
+    link-clear y j n l m e
+        = let is = nodes-apart (root_at v.shape) v.known w.node y 1 j order a.down.known n
+        (omega arith) m (sym a.at ∙ e) in omega (arith, is, a.at, e)
 
     link-down : Down w (after v (Look w.at) x)
     link-down = look-down w.at a.down iu link-clear
@@ -99,9 +108,13 @@ module _ (w : Walker) (v : SeatView) (b : Belongs w v) (x : ℕ) where
     link-found : x ≢ 0 → AtHeader (at_block w x) (after v (Look w.at) x)
     unfolding with_word looked
     link-found ne =
-        let found = found-below v w.node x a.down.known link-answer ne (λ c i. subst (λ (z : ℕ). In c (known_after v z x)) back ((look-goes v w.at x b.width iu).known c i)) in
-        let known : In found.0 (known_after v (node_of_link w.at) x) = subst (λ (z : ℕ). In found.0 (known_after v z x)) (sym back) found.1 in
-        let cells : found.0.cells ≡ cells_in w = known-cells v.shape (known_after v (node_of_link w.at) x) found.0 uorder iu.known known
+        let found = found-below v w.node x a.down.known link-answer ne
+        (λ c i. subst (λ (z : ℕ). In c (known_after v z x)) back ((look-goes v w.at x b.width iu).known c i)) in
+        let known : In found.0 (known_after v (node_of_link w.at) x)
+        = subst (λ (z : ℕ). In found.0 (known_after v z x)) (sym back) found.1 in
+        let cells : found.0.cells ≡ cells_in w
+        = known-cells v.shape
+        (known_after v (node_of_link w.at) x) found.0 uorder iu.known known
         ∙ ap (cells_below v.shape (known_after v (node_of_link w.at) x)) found.3
         ∙ sym (cells-is w (after v (Look w.at) x) b.shape uorder iu.known link-down) in
         record {
@@ -127,16 +140,20 @@ module _ (w : Walker) (v : SeatView) (b : Belongs w v) (x : ℕ) where
         none zero h = refl
         none (suc n) h = absurd (let q = h (omega arith) in omega (arith, q, e))
 
-    link-claim : x ≡ 0 → asks_block w ≡ true → MayClaim (record w { stage = Claiming }) (after v (Look w.at) x)
+    link-claim : x ≡ 0 → asks_block w ≡ true
+        → MayClaim (record w { stage = Claiming }) (after v (Look w.at) x)
     unfolding with_word looked
     link-claim e t =
-        let p = and_parts (not w.full) (nat_le w.shape.knobs.expand w.visits && nat_lt 0 (length (empties_of w.board))) t in
-        let q = and_parts (nat_le w.shape.knobs.expand w.visits) (nat_lt 0 (length (empties_of w.board))) p.1 in
+        let p = and_parts (not w.full)
+        (nat_le w.shape.knobs.expand w.visits && nat_lt 0 (length (empties_of w.board))) t in
+        let q = and_parts (nat_le w.shape.knobs.expand w.visits)
+        (nat_lt 0 (length (empties_of w.board))) p.1 in
         record {
           down = link-down;
           below = link-below e;
           vacant = ap (λ (ks : List LinkedBlock). link_of ks w.node) (link-known e) ∙ link-vacant e;
-          visits = let l = leb-true w.shape.knobs.expand w.visits q.0 in subst (λ (s : Setting). s.knobs.expand ≤ w.visits) (sym b.shape) l;
+          visits = let l = leb-true w.shape.knobs.expand w.visits q.0 in
+              subst (λ (s : Setting). s.knobs.expand ≤ w.visits) (sym b.shape) l;
           some = ltb-true 0 (length (empties_of w.board)) q.1;
           room = b.full ∙ not-true w.full p.0;
         }
@@ -145,8 +162,10 @@ module _ (w : Walker) (v : SeatView) (b : Belongs w v) (x : ℕ) where
     unfolding with_word looked
     link-leaf e t =
         let u : SeatView = after v (Look w.at) x in
-        let empties : length (empties_of w.board) ≡ empties_at u w.node = ap (λ (p : NodeState). length (empties_of p.board)) link-down.is in
-        leaf-stands w u b.shape uorder iu.known link-down a.held (link-below e) (inl (ap (λ (ks : List LinkedBlock). link_of ks w.node) (link-known e) ∙ link-vacant e))
+        let empties : length (empties_of w.board) ≡ empties_at u w.node
+        = ap (λ (p : NodeState). length (empties_of p.board)) link-down.is in
+        leaf-stands w u b.shape uorder iu.known link-down a.held (link-below e)
+        (inl (ap (λ (ks : List LinkedBlock). link_of ks w.node) (link-known e) ∙ link-vacant e))
         (⊎_elim
         (λ (f : nat_le w.shape.knobs.expand w.visits ≡ false). let l = leb-false w.shape.knobs.expand w.visits f in
         inl (omega (arith, l, link-down.counted, ap (λ (s : Setting). s.knobs.expand) b.shape)))

@@ -1,5 +1,6 @@
 -- The looks at a header keep Belongs.
-use Rattle.std.proofs.Common.{◌≡◌, ◌≢◌, ℕ, ◌+◌, ◌-◌, ◌%◌, ◌<◌, ◌≤◌, Bool, true, cond, length, refl, sym, ap, ◌∙◌, subst, arith, ⊎_elim, inl, inr}
+use Rattle.std.proofs.Common.{◌≡◌, ◌≢◌, ℕ, ◌+◌, ◌-◌, ◌%◌, ◌<◌, ◌≤◌, Bool, true, cond, length, refl}
+use Rattle.std.proofs.Common.{sym, ap, ◌∙◌, subst, arith, ⊎_elim, inl, inr}
 use Rattle.std.specs.Prelude.{◌==◌, ◌||◌}
 use Rattle.std.proofs.lemmas.Bool.{eq-eqb, ne_eqb, cases_lt, cases_eq, lt-ltb}
 use Rattle.play_out.specs.Fills.{empties_of}
@@ -33,13 +34,16 @@ module _ (w : Walker) (v : SeatView) (b : Belongs w v) (x : ℕ) where
   order = one-order v b.view b.width
 
   -- a header word of the block below
-  module _ (a : AtHeader w v) (may : MayAnswer v (Look w.at) x) (iu : IsView (after v (Look w.at) x)) where
+  module _ (a : AtHeader w v) (may : MayAnswer v (Look w.at) x)
+      (iu : IsView (after v (Look w.at) x)) where
     header-stays : (i : ℕ) → i < 4 → is_header_or_move i ≡ true
     header-stays i l = ap (λ (t : Bool). t || (i % 4 == 0)) (lt-ltb i 4 l)
 
     head-clear : (y j : ℕ) → is_known v y ≡ true → 2 ≤ j → j < 4 → w.at ≢ y + j
-    head-clear y j n l m e = stays-clear (root_at v.shape) v.known a.block (w.at - w.start) y j order a.below.known
-        (omega (arith, a.at)) (header-stays (w.at - w.start) (omega (arith, a.at))) n (omega arith) m (omega (arith, a.below.start, a.at, e))
+    head-clear y j n l m e = stays-clear (root_at v.shape) v.known a.block
+        (w.at - w.start) y j order a.below.known
+        (omega (arith, a.at)) (header-stays (w.at - w.start) (omega (arith, a.at))) n
+        (omega arith) m (omega (arith, a.below.start, a.at, e))
 
     head-down : Down w (after v (Look w.at) x)
     head-down = look-down w v b x w.at a.down iu head-clear
@@ -55,7 +59,8 @@ module _ (w : Walker) (v : SeatView) (b : Belongs w v) (x : ℕ) where
     unfolding with_word looked
     head-cells = cells-is w (after v (Look w.at) x) b.shape horder iu.known head-down
 
-    head-next : w.at + 1 < w.start + 4 → AtHeader (record w { at = w.at + 1 }) (after v (Look w.at) x)
+    head-next : w.at + 1 < w.start + 4
+        → AtHeader (record w { at = w.at + 1 }) (after v (Look w.at) x)
     unfolding with_word looked
     head-next l = record {
       down = head-down;
@@ -68,18 +73,23 @@ module _ (w : Walker) (v : SeatView) (b : Belongs w v) (x : ℕ) where
     head-below : length (cells_in w) ≡ 0 → w.node ≢ root_at v.shape
     head-below e r =
         let some = some-allowed v.shape b.view.setting in
-        let all : cells_in w ≡ allowed_cells v.shape = head-cells ∙ ap (λ (t : Bool). cond t (allowed_cells v.shape) (empties_of (node_board v.shape (after v (Look w.at) x).known w.node))) (eq-eqb w.node (root_at v.shape) r) in
+        let all : cells_in w ≡ allowed_cells v.shape = head-cells
+        ∙ ap (λ (t : Bool). cond t (allowed_cells v.shape) (empties_of (node_board v.shape (after v (Look w.at) x).known w.node))) (eq-eqb w.node (root_at v.shape) r) in
         omega (arith, some, ap length all, e)
 
     head-leaf : length (cells_in w) ≡ 0 → AtTally (at_leaf w) (after v (Look w.at) x)
     unfolding with_word looked
     head-leaf e =
         let ne = head-below e in
-        let empties : cells_in w ≡ empties_of (node_board v.shape (after v (Look w.at) x).known w.node)
-        = head-cells ∙ ap (λ (t : Bool). cond t (allowed_cells v.shape) (empties_of (node_board v.shape (after v (Look w.at) x).known w.node))) (ne_eqb w.node (root_at v.shape) ne) in
-        leaf-stands w (after v (Look w.at) x) b.shape horder iu.known head-down a.held ne (inr (sym (ap length empties) ∙ e)) (inr (inl (sym (ap length empties) ∙ e)))
+        let empties : cells_in w ≡ empties_of
+        (node_board v.shape (after v (Look w.at) x).known w.node)
+        = head-cells
+        ∙ ap (λ (t : Bool). cond t (allowed_cells v.shape) (empties_of (node_board v.shape (after v (Look w.at) x).known w.node))) (ne_eqb w.node (root_at v.shape) ne) in
+        leaf-stands w (after v (Look w.at) x) b.shape horder iu.known head-down a.held ne
+        (inr (sym (ap length empties) ∙ e)) (inr (inl (sym (ap length empties) ∙ e)))
 
-    head-scan : 0 < length (cells_in w) → AtChild (record w { stage = Scanning; scan = scan_of w.start (length (cells_in w)) w.visits w.shape.knobs.weight }) (after v (Look w.at) x)
+    head-scan : 0 < length (cells_in w)
+        → AtChild (record w { stage = Scanning; scan = scan_of w.start (length (cells_in w)) w.visits w.shape.knobs.weight }) (after v (Look w.at) x)
     unfolding with_word looked
     head-scan l = record {
       down = head-down;

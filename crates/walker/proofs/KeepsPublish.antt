@@ -1,5 +1,6 @@
 -- The link of a new block keeps Belongs.
-use Rattle.std.proofs.Common.{◌≡◌, ◌≢◌, ℕ, Bool, cond, ◌∷◌, refl, sym, ap, ◌∙◌, subst, arith, ⊎_elim, inl}
+use Rattle.std.proofs.Common.{◌≡◌, ◌≢◌, ℕ, Bool, cond, ◌∷◌, refl, sym, ap, ◌∙◌, subst, arith}
+use Rattle.std.proofs.Common.{⊎_elim, inl}
 use Rattle.std.specs.Prelude.{◌==◌}
 use Rattle.std.proofs.lemmas.Bool.{cases_eq, eq-eqb, ne_eqb}
 use Rattle.tree_words.specs.Words.{root_at}
@@ -21,7 +22,8 @@ use Rattle.walker.proofs.KeepsBlock.{still-down}
 use Rattle.arena_rule.proofs.Room.{told-known}
 
 module _ (w : Walker) (v : SeatView) (b : Belongs w v) (x : ℕ) where
-  module _ (a : AtPublish w v) (may : MayAnswer v (Publish w.at w.start) x) (iu : IsView (after v (Publish w.at w.start) x)) where
+  module _ (a : AtPublish w v) (may : MayAnswer v (Publish w.at w.start) x)
+      (iu : IsView (after v (Publish w.at w.start) x)) where
     -- the link that now holds
     link-some : cond (x == 0) w.start x ≢ 0
     link-some = ⊎_elim
@@ -32,9 +34,11 @@ module _ (w : Walker) (v : SeatView) (b : Belongs w v) (x : ℕ) where
     back : node_of_link w.at ≡ w.node
     back = omega (arith, a.at)
 
-    published-known : (after v (Publish w.at w.start) x).known ≡ told_below v w.node (cond (x == 0) w.start x) ∷ v.known
+    published-known : (after v (Publish w.at w.start) x).known ≡ told_below v w.node
+        (cond (x == 0) w.start x) ∷ v.known
     unfolding with_word published
-    published-known = ap (λ (z : ℕ). known_after v z (cond (x == 0) w.start x)) back ∙ told-known v w.node (cond (x == 0) w.start x) a.may.down.known a.may.vacant link-some
+    published-known = ap (λ (z : ℕ). known_after v z (cond (x == 0) w.start x)) back
+        ∙ told-known v w.node (cond (x == 0) w.start x) a.may.down.known a.may.vacant link-some
 
     publish-goes : Goes v (after v (Publish w.at w.start) x) 0
     unfolding with_word published
@@ -42,7 +46,8 @@ module _ (w : Walker) (v : SeatView) (b : Belongs w v) (x : ℕ) where
       shape = refl;
       known = known-kept v (Publish w.at w.start) x;
       node = known-more v (node_of_link w.at) (cond (x == 0) w.start x);
-      state = λ y n. state-known v (node_of_link w.at) (cond (x == 0) w.start x) y (one-order (after v (Publish w.at w.start) x) iu b.width) n;
+      state = λ y n. state-known v (node_of_link w.at) (cond (x == 0) w.start x) y
+          (one-order (after v (Publish w.at w.start) x) iu b.width) n;
       loads = λ i ne. refl;
     }
 
@@ -51,7 +56,9 @@ module _ (w : Walker) (v : SeatView) (b : Belongs w v) (x : ℕ) where
     keeps-publish =
         let u : SeatView = after v (Publish w.at w.start) x in
         let link : ℕ = cond (x == 0) w.start x in
-        let down : Down w u = still-down v u w.number w.node w.visits (state_in w) w.way b.view b.width publish-goes a.may.down refl refl refl in
+        let down : Down w u
+        = still-down v u w.number w.node w.visits
+        (state_in w) w.way b.view b.width publish-goes a.may.down refl refl refl in
         let c : LinkedBlock = told_below v w.node link in
         let known : In c u.known = subst (In c) (sym published-known) (inl refl) in
         let order : InOrder (root_at u.shape) u.known = one-order u iu b.width in
@@ -68,7 +75,8 @@ module _ (w : Walker) (v : SeatView) (b : Belongs w v) (x : ℕ) where
               known = known;
               start = refl;
               parent = refl;
-              cells = known-cells u.shape u.known c order iu.known known ∙ sym (cells-is w u b.shape order iu.known down);
+              cells = known-cells u.shape u.known c order iu.known known
+                  ∙ sym (cells-is w u b.shape order iu.known down);
             };
             at = (omega arith, omega arith);
           };

@@ -1,5 +1,6 @@
 -- The draw, the root's tally, the adds and the record keep Belongs.
-use Rattle.std.proofs.Common.{◌≡◌, ℕ, zero, suc, ◌+◌, ◌<◌, ◌≤◌, true, List, [], ◌∷◌, ◌++◌, length, drop, Option, Some, None, refl, sym, ap, ◌∙◌, subst, arith, ⊎_elim}
+use Rattle.std.proofs.Common.{◌≡◌, ℕ, zero, suc, ◌+◌, ◌<◌, ◌≤◌, true, List, [], ◌∷◌, ◌++◌, length}
+use Rattle.std.proofs.Common.{drop, Option, Some, None, refl, sym, ap, ◌∙◌, subst, arith, ⊎_elim}
 use Rattle.hex_board.specs.Positions.{Position, is_empty_at}
 use Rattle.play_out.specs.Fills.{empties_of}
 use Rattle.tree_words.specs.Settings.{Setting}
@@ -26,13 +27,16 @@ use Rattle.walker.proofs.Going.{look-tally}
 use Rattle.walker.proofs.Cases.{drawn-begins, drawn-ends}
 
 -- after one more drop
-drop-suc : (xs : List CountAdd) (n : ℕ) (a : CountAdd) (rest : List CountAdd) → a ∷ rest ≡ drop n xs → rest ≡ drop (suc n) xs
+drop-suc : (xs : List CountAdd) (n : ℕ) (a : CountAdd) (rest : List CountAdd) → a ∷ rest ≡ drop n xs
+    → rest ≡ drop (suc n) xs
 drop-suc xs zero a rest e = ap (drop 1) e
 drop-suc [] (suc n) a rest e = absurd (cc)
 drop-suc (x ∷ xs) (suc n) a rest e = drop-suc xs n a rest e
 
-drop-next : (xs : List CountAdd) (n : ℕ) (a : CountAdd) (rest : List CountAdd) → a ∷ rest ≡ drop n xs → rest ≡ drop (n + 1) xs
-drop-next xs n a rest e = let k : suc n ≡ n + 1 = omega arith in drop-suc xs n a rest e ∙ ap (λ (m : ℕ). drop m xs) k
+drop-next : (xs : List CountAdd) (n : ℕ) (a : CountAdd) (rest : List CountAdd)
+    → a ∷ rest ≡ drop n xs → rest ≡ drop (n + 1) xs
+drop-next xs n a rest e = let k : suc n ≡ n + 1 = omega arith in drop-suc xs n a rest e
+    ∙ ap (λ (m : ℕ). drop m xs) k
 
 pub few-empties : (p : Position) → p.size ≤ 11 → length (empties_of p) ≤ 121
 unfolding empties_of
@@ -41,7 +45,9 @@ few-empties p l = few_cells p.size (is_empty_at p) l
 module _ (w : Walker) (v : SeatView) (b : Belongs w v) (x : ℕ) where
   -- the draw
   module _ (a : AtDraw w v) (iu : IsView (after v Draw x)) where
-    draw-begins : x < v.shape.knobs.playouts → drew v x ≡ record v { ticket = Some x } → Belongs (record w { number = x; stage = Rooting; at = root_at w.shape + 2 }) (after v Draw x)
+    draw-begins : x < v.shape.knobs.playouts → drew v x ≡ record v { ticket = Some x }
+        → Belongs (record w { number = x; stage = Rooting; at = root_at w.shape + 2 })
+        (after v Draw x)
     unfolding with_word
     draw-begins l e =
         let shape : (drew v x).shape ≡ w.shape = ap (λ (z : SeatView). z.shape) e ∙ b.shape in
@@ -58,7 +64,8 @@ module _ (w : Walker) (v : SeatView) (b : Belongs w v) (x : ℕ) where
           };
         }
 
-    draw-ends : drew v x ≡ record v { ended = 1 } → Belongs (record w { stage = Ended }) (after v Draw x)
+    draw-ends : drew v x ≡ record v { ended = 1 }
+        → Belongs (record w { stage = Ended }) (after v Draw x)
     unfolding with_word
     draw-ends e = record {
       shape = ap (λ (z : SeatView). z.shape) e ∙ b.shape;
@@ -71,7 +78,8 @@ module _ (w : Walker) (v : SeatView) (b : Belongs w v) (x : ℕ) where
     pub keeps-draw : Belongs (drawn w x) (after v Draw x)
     keeps-draw =
         let goal : Walker → Type 0 = λ z. Belongs z (after v Draw x) in
-        let many : v.shape.knobs.playouts ≡ w.shape.knobs.playouts = ap (λ (s : Setting). s.knobs.playouts) b.shape in
+        let many : v.shape.knobs.playouts ≡ w.shape.knobs.playouts
+        = ap (λ (s : Setting). s.knobs.playouts) b.shape in
         ⊎_elim
         (λ (q : (x < v.shape.knobs.playouts) × (drew v x ≡ record v { ticket = Some x })). let l = q.0 in
         subst goal (sym (drawn-begins w x (omega (arith, l, many)))) (draw-begins q.0 q.1))
@@ -80,13 +88,16 @@ module _ (w : Walker) (v : SeatView) (b : Belongs w v) (x : ℕ) where
         (drew_cases v x)
 
   -- the root's tally
-  module _ (a : AtRoot w v) (may : MayAnswer v (Look w.at) x) (iu : IsView (after v (Look w.at) x)) where
-    root-down : IsDown w.number (root_at v.shape) (visits_in x) (record { board = v.shape.board; player = v.shape.player }) [] (after v (Look w.at) x)
+  module _ (a : AtRoot w v) (may : MayAnswer v (Look w.at) x)
+      (iu : IsView (after v (Look w.at) x)) where
+    root-down : IsDown w.number (root_at v.shape) (visits_in x)
+        (record { board = v.shape.board; player = v.shape.player }) [] (after v (Look w.at) x)
     unfolding with_word looked
     root-down =
         let u : SeatView = after v (Look w.at) x in
         let known : is_known v (root_at v.shape) ≡ true = root_node (root_at v.shape) v.known in
-        let load : load_of u.loads (root_at v.shape + 2) ≡ Some x = look-tally v w.at x (root_at v.shape) known a.at in
+        let load : load_of u.loads (root_at v.shape + 2) ≡ Some x
+        = look-tally v w.at x (root_at v.shape) known a.at in
         let counts = may.step.tally (root_at v.shape) known a.at in
         let most = b.view.setting.position.most in
         record {
@@ -118,18 +129,24 @@ module _ (w : Walker) (v : SeatView) (b : Belongs w v) (x : ℕ) where
 
   -- an add is made
 
-  pub next-left : (f : Flight) (a : CountAdd) (rest : List CountAdd) → Leaves w v (Some f) (a ∷ rest) → Leaves w v (Some (record { leaf = f.leaf; made = f.made + 1 })) rest
-  next-left f a rest l = (l.0, drop-next (walk_adds v.shape v.known w.number w.leaf) f.made a rest l.1, let m = l.2 in omega (arith, m))
+  pub next-left : (f : Flight) (a : CountAdd) (rest : List CountAdd)
+      → Leaves w v (Some f) (a ∷ rest)
+      → Leaves w v (Some (record { leaf = f.leaf; made = f.made + 1 })) rest
+  next-left f a rest l
+      = (l.0, drop-next (walk_adds v.shape v.known w.number w.leaf) f.made a rest l.1, let m = l.2 in omega (arith, m))
 
-  pub first-left : (f : Option Flight) (at : ℕ) (a : CountAdd) (rest : List CountAdd) → at ≡ w.node + 2 → Leaves w v f (a ∷ rest) → Leaves w v (Some (flight_after at f)) rest
+  pub first-left : (f : Option Flight) (at : ℕ) (a : CountAdd) (rest : List CountAdd)
+      → at ≡ w.node + 2 → Leaves w v f (a ∷ rest) → Leaves w v (Some (flight_after at f)) rest
   first-left None at a rest e l =
       let is = l.1 in
       (omega (arith, e, is), drop-next (walk_adds v.shape v.known w.number w.leaf) 0 a rest l.2, let m = ap length l.2 in omega (arith, m))
   first-left (Some f) at a rest e l = next-left f a rest l
 
 -- a walk on its way up stands at the next add
-pub up-belongs : (w : Walker) (u : SeatView) (climb : List CountAdd) → u.shape ≡ w.shape → IsView u → u.width ≡ 1 → u.full ≡ w.full
-    → w.climb ≡ climb → Climbs w u → (f : Flight) → u.adds ≡ Some f → Leaves w u (Some f) (climb ++ adds_above w u) → Belongs (on_way_up climb w) u
+pub up-belongs : (w : Walker) (u : SeatView) (climb : List CountAdd) → u.shape ≡ w.shape → IsView u
+    → u.width ≡ 1 → u.full ≡ w.full
+    → w.climb ≡ climb → Climbs w u → (f : Flight) → u.adds ≡ Some f
+    → Leaves w u (Some f) (climb ++ adds_above w u) → Belongs (on_way_up climb w) u
 up-belongs w u [] s iv one full e c f k l = record {
   shape = s;
   view = iv;

@@ -1,6 +1,8 @@
 -- The levels of an array, the last first.
-use Rattle.std.proofs.Common.{◌≡◌, ℕ, ◌+◌, ◌-◌, ◌<◌, ◌≤◌, List, [], ◌∷◌, length, take, set, get_or, reverse, refl, ap, ◌∙◌, arith}
-use Rattle.std.proofs.lemmas.List.{take_more, take_more_set, reverse-append, length-reverse, length-take-le}
+use Rattle.std.proofs.Common.{◌≡◌, ℕ, ◌+◌, ◌-◌, ◌<◌, ◌≤◌, List, [], ◌∷◌, length, take, set, get_or}
+use Rattle.std.proofs.Common.{reverse, refl, ap, ◌∙◌, arith}
+use Rattle.std.proofs.lemmas.List.{take_more, take_more_set, reverse-append, length-reverse}
+use Rattle.std.proofs.lemmas.List.{length-take-le}
 use Rattle.walker.specs.declared.ways.Level.{Level}
 use Rattle.walker.specs.Ways.{levels_to}
 
@@ -16,12 +18,14 @@ unfolding levels_to
 levels-long ls n h = length-reverse (take n ls) ∙ length-take-le n ls h
 
 -- one more, which was written there
-pub levels-set : (ls : List Level) (n : ℕ) (l : Level) → n < length ls → levels_to (set ls n l) (n + 1) ≡ l ∷ levels_to ls n
+pub levels-set : (ls : List Level) (n : ℕ) (l : Level) → n < length ls
+    → levels_to (set ls n l) (n + 1) ≡ l ∷ levels_to ls n
 unfolding levels_to
 levels-set ls n l h = ap reverse (take_more_set ls n l h) ∙ reverse-append (take n ls) (l ∷ [])
 
 -- the last of them
-pub levels-last : (ls : List Level) (n : ℕ) (l : Level) → 0 < n → n ≤ length ls → levels_to ls n ≡ get_or ls (n - 1) l ∷ levels_to ls (n - 1)
+pub levels-last : (ls : List Level) (n : ℕ) (l : Level) → 0 < n → n ≤ length ls
+    → levels_to ls n ≡ get_or ls (n - 1) l ∷ levels_to ls (n - 1)
 unfolding levels_to
 levels-last ls n l p h =
     ap (λ (m : ℕ). reverse (take m ls)) (back n p)

@@ -1,5 +1,6 @@
 -- How many numbers of a set lie below another.
-use Rattle.std.proofs.Common.{◌≡◌, ℕ, zero, suc, ◌+◌, ◌/◌, ◌%◌, ◌^◌, ◌≤◌, Bool, true, false, cond, List, [], ◌∷◌, ◌++◌, length, get_or, refl, sym, ap, ◌∙◌, arith}
+use Rattle.std.proofs.Common.{◌≡◌, ℕ, zero, suc, ◌+◌, ◌/◌, ◌%◌, ◌^◌, ◌≤◌, Bool, true, false, cond}
+use Rattle.std.proofs.Common.{List, [], ◌∷◌, ◌++◌, length, get_or, refl, sym, ap, ◌∙◌, arith}
 use Rattle.hex_cells.specs.Sets.{has as has_cell, members}
 use Rattle.hex_cells.proofs.Bits.{has_mod, has_shr}
 use Rattle.hex_cells.proofs.Counts.{members_none, members_more}
@@ -36,10 +37,13 @@ members-high s n zero = omega (arith, ap (members s) (plus-none n), members_none
     plus-none : (n : ℕ) → n + 0 ≡ n
     plus-none n = omega arith
 members-high s n (suc k) =
-    let bit : has_cell (s / 2 ^ n) k ≡ has_cell s (n + k) = has_shr s n k ∙ ap (has_cell s) (turned k n) in
+    let bit : has_cell (s / 2 ^ n) k ≡ has_cell s (n + k) = has_shr s n k
+    ∙ ap (has_cell s) (turned k n) in
     let more : members (s / 2 ^ n) (suc k) ≡ cond (has_cell s (n + k)) 1 0 + members (s / 2 ^ n) k
-    = ap (members (s / 2 ^ n)) (one-more k) ∙ (members_more (s / 2 ^ n) k ∙ ap (λ (b : Bool). cond b 1 0 + members (s / 2 ^ n) k) bit) in
-    let up : members s (n + suc k) ≡ cond (has_cell s (n + k)) 1 0 + members s (n + k) = ap (members s) (shift n k) ∙ members_more s (n + k) in
+    = ap (members (s / 2 ^ n)) (one-more k)
+    ∙ (members_more (s / 2 ^ n) k ∙ ap (λ (b : Bool). cond b 1 0 + members (s / 2 ^ n) k) bit) in
+    let up : members s (n + suc k) ≡ cond (has_cell s (n + k)) 1 0 + members s (n + k)
+    = ap (members s) (shift n k) ∙ members_more s (n + k) in
     omega (arith, up, more, members-high s n k)
   where
     turned : (k n : ℕ) → k + n ≡ n + k

@@ -1,5 +1,6 @@
 -- The cells of a set by rising numbers.
-use Rattle.std.proofs.Common.{◌≡◌, ℕ, ◌*◌, ◌+◌, ◌-◌, ◌<◌, ◌≤◌, true, false, [], ◌∷◌, sym, ap, ◌∙◌, ◌^◌, arith, ⊎_elim}
+use Rattle.std.proofs.Common.{◌≡◌, ℕ, ◌*◌, ◌+◌, ◌-◌, ◌<◌, ◌≤◌, true, false, [], ◌∷◌, sym, ap, ◌∙◌}
+use Rattle.std.proofs.Common.{◌^◌, arith, ⊎_elim}
 use Rattle.std.specs.Prelude.{◌&&◌, ◌==◌, not}
 use Rattle.std.specs.List.{filter, range_with_len}
 use Rattle.std.proofs.lemmas.Bool.{cases_lt, false_from_ne_true}
@@ -20,7 +21,8 @@ unfolding cells_by_number
 by-number-none set none = none_pass (has_cell set) 0 121 (λ i l. none i)
 
 -- if none is listed, the set has no cell
-pub by-number-empty : (set bits : ℕ) → bits ≡ set → bits < 2 ^ 121 → cells_by_number set ≡ [] → (k : ℕ) → has_cell set k ≡ false
+pub by-number-empty : (set bits : ℕ) → bits ≡ set → bits < 2 ^ 121 → cells_by_number set ≡ []
+    → (k : ℕ) → has_cell set k ≡ false
 unfolding cells_by_number
 by-number-empty set bits is small e k = ⊎_elim
     (λ (l : k < 121). false_from_ne_true (has_cell set k) (λ t. absurd (none-cons (has_cell set) 0 121 k (omega arith) (omega (arith, l)) t e)))
@@ -28,13 +30,17 @@ by-number-empty set bits is small e k = ⊎_elim
     (cases_lt k 121)
 
 -- the least cell is the first
-pub by-number-least : (set rest c : ℕ) → c < 121 → has_cell set c ≡ true → ((k : ℕ) → k < c → has_cell set k ≡ false)
-    → ((k : ℕ) → has_cell rest k ≡ (has_cell set k && not (k == c))) → cells_by_number set ≡ c ∷ cells_by_number rest
+pub by-number-least : (set rest c : ℕ) → c < 121 → has_cell set c ≡ true
+    → ((k : ℕ) → k < c → has_cell set k ≡ false)
+    → ((k : ℕ) → has_cell rest k ≡ (has_cell set k && not (k == c)))
+    → cells_by_number set ≡ c ∷ cells_by_number rest
 unfolding cells_by_number
-by-number-least set rest c l t below out = least_pass (has_cell set) (has_cell rest) 0 121 c (omega arith) (omega arith) t below out
+by-number-least set rest c l t below out = least_pass (has_cell set) (has_cell rest) 0 121 c
+    (omega arith) (omega arith) t below out
 
 -- the empty cells of a board
-pub by-number-empties : (set : ℕ) (p : Position) → p.size ≤ 11 → ((k : ℕ) → has_cell set k ≡ is_empty_at p k) → cells_by_number set ≡ empties_of p
+pub by-number-empties : (set : ℕ) (p : Position) → p.size ≤ 11
+    → ((k : ℕ) → has_cell set k ≡ is_empty_at p k) → cells_by_number set ≡ empties_of p
 unfolding cells_by_number
 by-number-empties set p small e =
     let n : ℕ = p.size * p.size in

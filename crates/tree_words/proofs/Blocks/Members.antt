@@ -1,5 +1,6 @@
 -- The nodes of a tree and the blocks that they are in.
-use Rattle.std.proofs.Common.{◌≡◌, ◌⊎◌, ℕ, ◌<◌, true, false, List, [], ◌∷◌, ◌++◌, length, refl, sym, subst, ⊎_elim, inl, inr}
+use Rattle.std.proofs.Common.{◌≡◌, ◌⊎◌, ℕ, ◌<◌, true, false, List, [], ◌∷◌, ◌++◌, length, refl, sym}
+use Rattle.std.proofs.Common.{subst, ⊎_elim, inl, inr}
 use Rattle.std.specs.Prelude.{◌==◌}
 use Rattle.tree_words.specs.Blocks.{LinkedBlock, has_node, is_node, In}
 use Rattle.tree_words.specs.Trees.{oldest_first}
@@ -8,7 +9,8 @@ use Rattle.tree_words.specs.Descents.{Names}
 use Rattle.std.proofs.lemmas.Bool.{or_cases, eqb-true}
 
 -- a node of the tree is the root or a node of a block
-pub node-in : (r : ℕ) (bs : List LinkedBlock) (x : ℕ) → is_node r bs x ≡ true → (x ≡ r) ⊎ ((b : LinkedBlock) × In b bs × (has_node b x ≡ true))
+pub node-in : (r : ℕ) (bs : List LinkedBlock) (x : ℕ) → is_node r bs x ≡ true
+    → (x ≡ r) ⊎ ((b : LinkedBlock) × In b bs × (has_node b x ≡ true))
 node-in r [] x n = inl (eqb-true x r n)
 node-in r (b ∷ bs) x n = ⊎_elim
     (λ (h : has_node b x ≡ true). inr (b, inl refl, h))
@@ -23,14 +25,19 @@ in-snoc b n (c ∷ os) i = ⊎_elim (λ (e : b ≡ c). inl (inl e))
 
 pub in-turned : (b : LinkedBlock) (bs : List LinkedBlock) → In b (oldest_first bs) → In b bs
 in-turned b [] i = absurd i
-in-turned b (c ∷ bs) i = ⊎_elim (λ (h : In b (oldest_first bs)). inr (in-turned b bs h)) (λ (e : b ≡ c). inl e) (in-snoc b c (oldest_first bs) i)
+in-turned b (c ∷ bs) i = ⊎_elim (λ (h : In b (oldest_first bs)). inr (in-turned b bs h))
+    (λ (e : b ≡ c). inl e) (in-snoc b c (oldest_first bs) i)
 
-pub names-in : (os : List LinkedBlock) (x : ℕ) (b : LinkedBlock) → Names os x b → (In b os) × (b.parent ≡ x)
+pub names-in : (os : List LinkedBlock) (x : ℕ) (b : LinkedBlock) → Names os x b
+    → (In b os) × (b.parent ≡ x)
 names-in [] x b n = absurd n
 names-in (c ∷ os) x b n = ⊎_elim
     (λ (e : (c ≡ b) × (b.parent ≡ x)). (inl (sym e.0), e.1))
     (λ (e : ((c.parent == x) ≡ false) × Names os x b). let t = names-in os x b e.1 in (inr t.0, t.1)) n
 
-pub filled-in : (bs : List LinkedBlock) (b : LinkedBlock) → HaveNodes bs → In b bs → 0 < length b.cells
+pub filled-in : (bs : List LinkedBlock) (b : LinkedBlock) → HaveNodes bs → In b bs
+    → 0 < length b.cells
 filled-in [] b f i = absurd i
-filled-in (c ∷ bs) b f i = ⊎_elim (λ (e : b ≡ c). subst (λ (d : LinkedBlock). 0 < length d.cells) (sym e) f.0) (λ (h : In b bs). filled-in bs b f.1 h) i
+filled-in (c ∷ bs) b f i
+    = ⊎_elim (λ (e : b ≡ c). subst (λ (d : LinkedBlock). 0 < length d.cells) (sym e) f.0)
+    (λ (h : In b bs). filled-in bs b f.1 h) i

@@ -1,5 +1,6 @@
 -- The counts along the way of a walk.
-use Rattle.std.proofs.Common.{◌≡◌, ℕ, ◌+◌, ◌≤◌, ◌<◌, ◌^◌, Bool, true, false, cond, List, [], ◌∷◌, ◌++◌, refl, sym, ap, ◌∙◌, ⊎_elim, inl, inr, arith}
+use Rattle.std.proofs.Common.{◌≡◌, ℕ, ◌+◌, ◌≤◌, ◌<◌, ◌^◌, Bool, true, false, cond, List, [], ◌∷◌}
+use Rattle.std.proofs.Common.{◌++◌, refl, sym, ap, ◌∙◌, ⊎_elim, inl, inr, arith}
 use Rattle.std.specs.Prelude.{◌==◌}
 use Rattle.hex_cells.specs.Sets.{has as has_cell}
 use Rattle.hex_cells.specs.Colours.{is_same}
@@ -12,14 +13,16 @@ use Rattle.tree_words.specs.Walks.{nothing, plus, AtMost}
 use Rattle.tree_words.specs.Trees.{oldest_first}
 use Rattle.play_out.specs.declared.playouts.Ending.{Ending}
 use Rattle.tree_words.specs.Sequence.{one, gain_of, glimpse_of, search_game, amount_of}
-use Rattle.tree_words.specs.Descents.{pick, adds_leaf, adds_inner, adds, sees_leaf, sees_inner, sees}
+use Rattle.tree_words.specs.Descents.{pick, adds_leaf, adds_inner, adds, sees_leaf, sees_inner}
+use Rattle.tree_words.specs.Descents.{sees}
 use Rattle.std.proofs.lemmas.Bool.{eqb-true, ne_eqb}
 use Rattle.tree_words.proofs.Blocks.BlockLaws.{apart, clash}
 use Rattle.tree_words.proofs.Walks.Down.{down-split}
 use Rattle.tree_words.proofs.Blocks.GameLaws.{in-node}
 
 -- a count with one more, and the word that has it
-pub count-more : (n : ℕ) (t : Bool) → wins_in n + 1 < 2 ^ 32 → count_in (n + amount_of t) ≡ plus (count_in n) (one t)
+pub count-more : (n : ℕ) (t : Bool) → wins_in n + 1 < 2 ^ 32
+    → count_in (n + amount_of t) ≡ plus (count_in n) (one t)
 count-more n true l = λ i. record { visits = v n l i; wins = w n l i }
   where
     v : (n : ℕ) → wins_in n + 1 < 2 ^ 32 → visits_in (n + (2 ^ 32 + 1)) ≡ visits_in n + 1
@@ -53,7 +56,8 @@ at-most-if false a b ha hb = hb
 
 glimpse-one : (o : Ending) (p : NodeState) (c : ℕ) → AtMost 1 (glimpse_of o p c)
 unfolding glimpse_of
-glimpse-one o p c = at-most-if (has_cell (stones_of o.full p.player) c) (one (is_same o.winner p.player)) nothing (one-one (is_same o.winner p.player)) none-one
+glimpse-one o p c = at-most-if (has_cell (stones_of o.full p.player) c)
+    (one (is_same o.winner p.player)) nothing (one-one (is_same o.winner p.player)) none-one
   where
     one-one : (t : Bool) → AtMost 1 (one t)
     one-one true = (omega arith, omega arith)
@@ -64,7 +68,8 @@ abbrev pub Above : List LinkedBlock → Type 0
 Above [] = Unit {0}
 Above (b ∷ os) = (b.parent < b.start) × Above os
 
-above-snoc : (n : LinkedBlock) (os : List LinkedBlock) → Above os → n.parent < n.start → Above (os ++ n ∷ [])
+above-snoc : (n : LinkedBlock) (os : List LinkedBlock) → Above os → n.parent < n.start
+    → Above (os ++ n ∷ [])
 above-snoc n [] a l = (l, tt)
 above-snoc n (b ∷ os) a l = (a.0, above-snoc n os a.1 l)
 
@@ -73,7 +78,8 @@ above-turned r [] g = tt
 above-turned r (b ∷ bs) g = above-snoc b (oldest_first bs) (above-turned r bs g.1) g.0.above
 
 -- two blocks with a node in common are one
-pub has-one : (r : ℕ) (bs : List LinkedBlock) (b c : LinkedBlock) (w : ℕ) → InOrder r bs → In b bs → In c bs → has_node b w ≡ true → has_node c w ≡ true → b ≡ c
+pub has-one : (r : ℕ) (bs : List LinkedBlock) (b c : LinkedBlock) (w : ℕ) → InOrder r bs → In b bs
+    → In c bs → has_node b w ≡ true → has_node c w ≡ true → b ≡ c
 has-one r [] b c w g i j hb hc = absurd i
 has-one r (d ∷ bs) b c w g i j hb hc = ⊎_elim
     (λ (e : b ≡ d). ⊎_elim
@@ -87,33 +93,49 @@ has-one r (d ∷ bs) b c w g i j hb hc = ⊎_elim
     i
 
 module _ (s : Setting) (p q : ℕ → Count) (o : Ending) where
-  pub adds-one : (os : List LinkedBlock) (x : ℕ) (u : NodeState) (w : ℕ) → AtMost 1 (adds (search_game s) p q o os x u w)
+  pub adds-one : (os : List LinkedBlock) (x : ℕ) (u : NodeState) (w : ℕ)
+      → AtMost 1 (adds (search_game s) p q o os x u w)
   adds-one [] x u w = at-most-if (x == w) (gain_of o u) nothing (gain-one o u) none-one
-  adds-one (b ∷ os) x u w = down-split (adds_leaf (search_game s) p q o) (adds_inner (search_game s) p q o) (λ (f : NodeState → ℕ → Count). AtMost 1 (f u w)) b os x
+  adds-one (b ∷ os) x u w
+      = down-split (adds_leaf (search_game s) p q o) (adds_inner (search_game s) p q o)
+      (λ (f : NodeState → ℕ → Count). AtMost 1 (f u w)) b os x
       (λ t. at-most-if (x == w) (gain_of o u) _ (gain-one o u) (adds-one os (child b (pick (search_game s) p q b x)) (state_after u (cell_at b (pick (search_game s) p q b x))) w))
       (λ t. adds-one os x u w)
 
-  pub sees-one : (os : List LinkedBlock) (x : ℕ) (u : NodeState) (w : ℕ) → AtMost 1 (sees (search_game s) p q o os x u w)
+  pub sees-one : (os : List LinkedBlock) (x : ℕ) (u : NodeState) (w : ℕ)
+      → AtMost 1 (sees (search_game s) p q o os x u w)
   sees-one [] x u w = none-one
-  sees-one (b ∷ os) x u w = down-split (sees_leaf (search_game s) p q o) (sees_inner (search_game s) p q o) (λ (f : NodeState → ℕ → Count). AtMost 1 (f u w)) b os x
+  sees-one (b ∷ os) x u w
+      = down-split (sees_leaf (search_game s) p q o) (sees_inner (search_game s) p q o)
+      (λ (f : NodeState → ℕ → Count). AtMost 1 (f u w)) b os x
       (λ t. at-most-if (has_node b w) (glimpse_of o u (cell_at b (place b w))) _ (glimpse-one o u (cell_at b (place b w))) (sees-one os (child b (pick (search_game s) p q b x)) (state_after u (cell_at b (pick (search_game s) p q b x))) w))
       (λ t. sees-one os x u w)
 
   -- what lies before x gets nothing from the way below x
-  pub adds-before : (os : List LinkedBlock) (x : ℕ) (u : NodeState) (w : ℕ) → Above os → w < x → adds (search_game s) p q o os x u w ≡ nothing
-  adds-before [] x u w a l = ap (λ (t : Bool). cond t (gain_of o u) nothing) (ne_eqb x w (λ e. omega arith))
-  adds-before (b ∷ os) x u w a l = down-split (adds_leaf (search_game s) p q o) (adds_inner (search_game s) p q o) (λ (f : NodeState → ℕ → Count). f u w ≡ nothing) b os x
+  pub adds-before : (os : List LinkedBlock) (x : ℕ) (u : NodeState) (w : ℕ) → Above os → w < x
+      → adds (search_game s) p q o os x u w ≡ nothing
+  adds-before [] x u w a l = ap (λ (t : Bool). cond t (gain_of o u) nothing)
+      (ne_eqb x w (λ e. omega arith))
+  adds-before (b ∷ os) x u w a l
+      = down-split (adds_leaf (search_game s) p q o) (adds_inner (search_game s) p q o)
+      (λ (f : NodeState → ℕ → Count). f u w ≡ nothing) b os x
       (λ t.
       let j : ℕ = pick (search_game s) p q b x in
       let v : NodeState = state_after u (cell_at b j) in
-      ap (λ (t : Bool). cond t (gain_of o u) (adds (search_game s) p q o os (child b j) v w)) (ne_eqb x w (λ e. omega arith))
-      ∙ adds-before os (child b j) v w a.1 (let e = eqb-true b.parent x t in omega (arith, a.0, l, e)))
+      ap (λ (t : Bool). cond t (gain_of o u) (adds (search_game s) p q o os (child b j) v w))
+      (ne_eqb x w (λ e. omega arith))
+      ∙ adds-before os (child b j) v w a.1
+      (let e = eqb-true b.parent x t in omega (arith, a.0, l, e)))
       (λ t. adds-before os x u w a.1 l)
 
   -- what is a node of no block whose parent lies behind x sees nothing from the way below x
-  pub sees-before : (os : List LinkedBlock) (x : ℕ) (u : NodeState) (w : ℕ) → Above os → ((c : LinkedBlock) → In c os → x ≤ c.parent → has_node c w ≡ false) → sees (search_game s) p q o os x u w ≡ nothing
+  pub sees-before : (os : List LinkedBlock) (x : ℕ) (u : NodeState) (w : ℕ) → Above os
+      → ((c : LinkedBlock) → In c os → x ≤ c.parent → has_node c w ≡ false)
+      → sees (search_game s) p q o os x u w ≡ nothing
   sees-before [] x u w a h = refl
-  sees-before (b ∷ os) x u w a h = down-split (sees_leaf (search_game s) p q o) (sees_inner (search_game s) p q o) (λ (f : NodeState → ℕ → Count). f u w ≡ nothing) b os x
+  sees-before (b ∷ os) x u w a h
+      = down-split (sees_leaf (search_game s) p q o) (sees_inner (search_game s) p q o)
+      (λ (f : NodeState → ℕ → Count). f u w ≡ nothing) b os x
       (λ t.
       let j : ℕ = pick (search_game s) p q b x in
       let v : NodeState = state_after u (cell_at b j) in

@@ -5,10 +5,12 @@ use Rattle.hex_devices.proofs.InputLaws.{took_nothing, took_all, took_before}
 use Rattle.hex_devices.proofs.inputs.take_all.Goals as goal
 
 pub pieces-init : goal.pieces-init
-pieces-init g c = record { in_limit = grind arith; took = took_nothing _ _ (search rules); reads = refl; writes = refl }
+pieces-init g c
+    = record { in_limit = grind arith; took = took_nothing _ _ (search rules); reads = refl; writes = refl }
 
 pub returns-in-Err-clause-takes : goal.returns-in-Err-clause-takes
-returns-in-Err-clause-takes g c = took_before _ _ _ c.pieces.input.items c.args.limit c.pieces.invariant.in_limit c.pieces.invariant.took c.in-Err.ensures.told
+returns-in-Err-clause-takes g c
+    = took_before _ _ _ c.pieces.input.items c.args.limit c.pieces.invariant.in_limit c.pieces.invariant.took c.in-Err.ensures.told
 
 pub returns-then-count-eq0-clause-takes : goal.returns-then-count-eq0-clause-takes
 returns-then-count-eq0-clause-takes g c =

@@ -18,7 +18,8 @@ returns-in-Ok-Some-clause-came g c =
 pub returns-in-Ok-Some-clause-vain : goal.returns-in-Ok-Some-clause-vain
 returns-in-Ok-Some-clause-vain g c =
     let e : c.fetch.result ≡ Ok (Some c.in-Ok-Some.bytes) = cc in
-    on_err c.read_file.result _ (fetched_in_vain _ _ _ _ (Contents c.in-Ok-Some.bytes.items) c.fetch.ensures.told (ap (says (λ f. f.items)) e))
+    on_err c.read_file.result _
+    (fetched_in_vain _ _ _ _ (Contents c.in-Ok-Some.bytes.items) c.fetch.ensures.told (ap (says (λ f. f.items)) e))
 
 pub returns-in-Err-Fault-clause-came : goal.returns-in-Err-Fault-clause-came
 returns-in-Err-Fault-clause-came g c =

@@ -3,4 +3,5 @@ use Rattle.htp_line.proofs.request.words_of.Given as goal
 
 -- the words among the parts so far
 abbrev pub invariant-loop-part : goal.invariant-loop-part
-invariant-loop-part l = l.found.items ≡ filter (λ part. nat_lt 0 (length part)) (map (λ s. s.now) (take l.part-index l.part-items))
+invariant-loop-part l = l.found.items ≡ filter (λ part. nat_lt 0 (length part))
+    (map (λ s. s.now) (take l.part-index l.part-items))

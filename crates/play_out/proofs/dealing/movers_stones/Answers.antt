@@ -6,12 +6,14 @@ use Rattle.play_out.proofs.Shuffles.{dealt}
 use Rattle.play_out.proofs.Counting.{empties_listed, empties_moved}
 use Rattle.play_out.proofs.dealing.movers_stones.Goals as goal
 
-ordered : (c : goal.After-cells-3-1) → c.deal.new.cells ≡ order_of c.args.board.now c.args.seed c.args.k
+ordered : (c : goal.After-cells-3-1)
+    → c.deal.new.cells ≡ order_of c.args.board.now c.args.seed c.args.k
 ordered c = dealt _ _ _ _ c.seed_from_u64-generator.result _ c.list_empties-count.ensures.list c.seed_from_u64-generator.ensures c.deal.ensures.order
 
 pub returns-clause-value : goal.returns-clause-value
 unfolding filled
-returns-clause-value c = c.deal.ensures.stones ∙ ap (λ v. stones_of (filled_by c.args.board.now c.args.to_move v) c.args.to_move) (ordered c)
+returns-clause-value c = c.deal.ensures.stones
+    ∙ ap (λ v. stones_of (filled_by c.args.board.now c.args.to_move v) c.args.to_move) (ordered c)
 
 pub returns-clause-empties : goal.returns-clause-empties
 returns-clause-empties c =

@@ -4,7 +4,8 @@ use Rattle.std.specs.List.{filter, range_with_len}
 use Rattle.std.specs.Prelude.{bit_and}
 use Rattle.hex_cells.specs.Sets.{has}
 use Rattle.play_out.specs.Fills.{empties_of}
-use Rattle.play_out.proofs.Listing.{Listed, listed_four, listed_next, listed_few, rest_next, all_empties}
+use Rattle.play_out.proofs.Listing.{Listed, listed_four, listed_next, listed_few, rest_next}
+use Rattle.play_out.proofs.Listing.{all_empties}
 use Rattle.play_out.proofs.fours.list_empties.Goals as goal
 
 pub list_four-count-requires-clause-room : goal.list_four-count-requires-clause-room
@@ -18,7 +19,8 @@ loop-k-preserved c =
     record {
       listed = subst (Listed c.bits-rest.result c.list_four-count.new.cells c.list_four-count.result) end
           (listed_four c.bits-rest.result c.loop-k.cells c.list_four-count.new.cells c.loop-k.count (4 * c.loop-k.k) c.list_four-count.result (c.loop-k.rest % 16) c.loop-k.invariant.listed
-          (ap (λ v. v % 16) c.loop-k.invariant.rest) (c.list_four-count.ensures.size ∙ c.loop-k.invariant.listed.size) c.list_four-count.ensures.list c.list_four-count.ensures.count);
+          (ap (λ v. v % 16) c.loop-k.invariant.rest)
+          (c.list_four-count.ensures.size ∙ c.loop-k.invariant.listed.size) c.list_four-count.ensures.list c.list_four-count.ensures.count);
       rest = rest_next c.bits-rest.result c.loop-k.rest c.loop-k.k c.loop-k.invariant.rest;
     }
 

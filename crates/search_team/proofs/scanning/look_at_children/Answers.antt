@@ -24,7 +24,8 @@ rest-init c =
       own = c.look_while_choosing.ensures.own;
       stage = some.0;
       phase = c.look_while_choosing.ensures.phase;
-      run = run-runs c.args.walker.now (z c.in-Some.scan) (z c.look_while_choosing.new.scan) c.args.seat.now.view c.args.seat.now.view c.look_while_choosing.new.seat.view
+      run = run-runs c.args.walker.now (z c.in-Some.scan)
+          (z c.look_while_choosing.new.scan) c.args.seat.now.view c.args.seat.now.view c.look_while_choosing.new.seat.view
           (scan-begins c.args.walker.now c.args.seat.now.view c.requires.belongs some.0 c.in-Some.scan some.1) c.look_while_choosing.ensures.run;
       last = c.look_while_choosing.ensures.last;
     }
@@ -36,7 +37,8 @@ rest-preserved c =
       own = c.look_at_child.ensures.own;
       stage = c.rest.invariant.stage;
       phase = c.look_at_child.ensures.phase;
-      run = run-runs c.args.walker.now (z c.rest.scan) (z c.look_at_child.new.scan) c.args.seat.now.view
+      run = run-runs c.args.walker.now (z c.rest.scan)
+          (z c.look_at_child.new.scan) c.args.seat.now.view
           c.rest.seat.view c.look_at_child.new.seat.view c.rest.invariant.run c.look_at_child.ensures.run;
       last = c.look_at_child.ensures.last;
     }

@@ -12,7 +12,8 @@ looks-init c =
     record {
       own = c.requires.own;
       phase = c.requires.phase;
-      run = run-begins (with_scan c.args.walker.now c.args.scan.now) c.args.seat.now.view c.requires.belongs;
+      run = run-begins
+          (with_scan c.args.walker.now c.args.scan.now) c.args.seat.now.view c.requires.belongs;
       last = λ l. absurd (omega (arith, l, more));
     }
 
@@ -22,7 +23,8 @@ looks-preserved c =
     record {
       own = c.look_at_child.ensures.own;
       phase = c.look_at_child.ensures.phase;
-      run = run-runs (z c.args.scan.now) (z c.looks.scan) (z c.look_at_child.new.scan) c.args.seat.now.view
+      run = run-runs (z c.args.scan.now) (z c.looks.scan)
+          (z c.look_at_child.new.scan) c.args.seat.now.view
           c.looks.seat.view c.look_at_child.new.seat.view c.looks.invariant.run c.look_at_child.ensures.run;
       last = c.look_at_child.ensures.last;
     }

@@ -12,7 +12,8 @@ abbrev pub invariant-looks : goal.invariant-looks
 invariant-looks l = record {
   own : IsOf l.tree l.seat;
   phase : l.scan.phase ≡ Move;
-  run : HasRun (with_scan l.walker l.fn.scan) l.fn.seat.view (with_scan l.walker l.scan) l.seat.view;
+  run : HasRun (with_scan l.walker l.fn.scan) l.fn.seat.view
+      (with_scan l.walker l.scan) l.seat.view;
   last : l.scan.count ≤ l.scan.place → MayChoose (record l.walker { scan = l.scan });
 }
 

@@ -6,7 +6,8 @@ use Rattle.search_team.proofs.Narrow.{whole_tree}
 use Rattle.search_team.proofs.searching.search.Goals as goal
 
 pub widened-requires : goal.widened-requires
-widened-requires g c = subst (λ (t : Setting). IsNarrower t c.args.shape.now) (sym c.in_ok-closed.ensures.shape) c.narrowed-narrow.ensures.narrower
+widened-requires g c = subst (λ (t : Setting). IsNarrower t c.args.shape.now)
+    (sym c.in_ok-closed.ensures.shape) c.narrowed-narrow.ensures.narrower
 
 pub returns-in-Some-clause-one : goal.returns-in-Some-clause-one
 returns-in-Some-clause-one g c =

@@ -9,7 +9,8 @@ use Rattle.search_team.proofs.stepping.step.Goals as goal
 
 pub act-answer-requires-clause-fits : goal.act-answer-requires-clause-fits
 act-answer-requires-clause-fits c =
-    subst (FitsStep c.args.seat.now.view) (sym c.requires.next) (fits c.args.walker.now c.args.seat.now.view c.requires.belongs)
+    subst (FitsStep c.args.seat.now.view) (sym c.requires.next)
+    (fits c.args.walker.now c.args.seat.now.view c.requires.belongs)
 
 pub returns-clause-fewer : goal.returns-clause-fewer
 returns-clause-fewer c =

@@ -11,7 +11,8 @@ abbrev pub invariant-steps : goal.invariant-steps
 invariant-steps g l = record {
   own : IsOf l.tree l.seat;
   belongs : Belongs l.walker l.seat.view;
-  alone : l.shape.knobs.workers ≡ 1 → l.fn.seat.view.whole ≡ Some (opening_words l.shape) → HasRunAlone l.shape l.walker l.seat.view;
+  alone : l.shape.knobs.workers ≡ 1 → l.fn.seat.view.whole ≡ Some (opening_words l.shape)
+      → HasRunAlone l.shape l.walker l.seat.view;
 }
 
 abbrev pub decreases-steps : goal.decreases-steps

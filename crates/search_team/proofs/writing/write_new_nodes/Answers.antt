@@ -13,7 +13,8 @@ nodes-init c =
       stage = some.0;
       nodes = some.3;
       run = nodes-begin c.args.walker.now c.args.seat.now.view c.requires.belongs some.0 c.in-Some.nodes some.1 some.2 some.3;
-      node = λ e. absurd (some-node c.args.walker.now c.args.seat.now.view c.requires.belongs some.0 c.in-Some.nodes some.2 some.3 e);
+      node = λ e. absurd
+          (some-node c.args.walker.now c.args.seat.now.view c.requires.belongs some.0 c.in-Some.nodes some.2 some.3 e);
     }
 
 pub nodes-preserved : goal.nodes-preserved
@@ -23,7 +24,8 @@ nodes-preserved c =
       own = c.write_node.ensures.own;
       stage = c.nodes.invariant.stage;
       nodes = c.write_node.ensures.nodes;
-      run = run-runs c.args.walker.now (z c.nodes.nodes) (z c.write_node.new.nodes) c.args.seat.now.view
+      run = run-runs c.args.walker.now (z c.nodes.nodes)
+          (z c.write_node.new.nodes) c.args.seat.now.view
           c.nodes.seat.view c.write_node.new.seat.view c.nodes.invariant.run c.write_node.ensures.run;
       node = λ e. c.write_node.ensures.node;
     }

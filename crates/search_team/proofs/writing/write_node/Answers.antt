@@ -1,11 +1,13 @@
 -- The writes fit, and are four steps of the walker.
 use Rattle.std.proofs.Common.{sym, subst}
 use Rattle.arena_rule.specs.Fits.{FitsStep}
-use Rattle.search_team.proofs.NodeWrites.{at-small, node-small, place-small, fits-move, fits-link, fits-tally, fits-seen, node-written}
+use Rattle.search_team.proofs.NodeWrites.{at-small, node-small, place-small, fits-move, fits-link}
+use Rattle.search_team.proofs.NodeWrites.{fits-tally, fits-seen, node-written}
 use Rattle.search_team.proofs.writing.write_node.Goals as goal
 
 pub node_ops-write_move-requires-clause-at : goal.node_ops-write_move-requires-clause-at
-node_ops-write_move-requires-clause-at c = at-small c.args.walker.now c.args.nodes.now c.args.seat.now.view c.requires.stage c.requires.nodes c.requires.more c.requires.belongs
+node_ops-write_move-requires-clause-at c
+    = at-small c.args.walker.now c.args.nodes.now c.args.seat.now.view c.requires.stage c.requires.nodes c.requires.more c.requires.belongs
 
 pub act-moved-requires-clause-fits : goal.act-moved-requires-clause-fits
 act-moved-requires-clause-fits c =
@@ -34,10 +36,12 @@ act-seen-requires-clause-fits c =
     c.node_ops-write_move.result.2 c.act-tally.result c.act-tally.new.self.view c.node_ops-write_move.ensures.third c.act-tally.ensures.answer c.act-tally.ensures.view)
 
 pub got_node-requires-clause-at : goal.got_node-requires-clause-at
-got_node-requires-clause-at c = at-small c.args.walker.now c.args.nodes.now c.args.seat.now.view c.requires.stage c.requires.nodes c.requires.more c.requires.belongs
+got_node-requires-clause-at c
+    = at-small c.args.walker.now c.args.nodes.now c.args.seat.now.view c.requires.stage c.requires.nodes c.requires.more c.requires.belongs
 
 pub got_node-requires-clause-place : goal.got_node-requires-clause-place
-got_node-requires-clause-place c = place-small c.args.walker.now c.args.nodes.now c.args.seat.now.view c.requires.stage c.requires.nodes c.requires.more c.requires.belongs
+got_node-requires-clause-place c
+    = place-small c.args.walker.now c.args.nodes.now c.args.seat.now.view c.requires.stage c.requires.nodes c.requires.more c.requires.belongs
 
 pub returns-clause-nodes : goal.returns-clause-nodes
 returns-clause-nodes c =
@@ -67,4 +71,5 @@ returns-clause-fewer c =
     c.got_node.new.self c.got_node.ensures).fewer
 
 pub returns-clause-node : goal.returns-clause-node
-returns-clause-node c = node-small c.args.walker.now c.args.nodes.now c.args.seat.now.view c.requires.stage c.requires.nodes c.requires.more c.requires.belongs
+returns-clause-node c
+    = node-small c.args.walker.now c.args.nodes.now c.args.seat.now.view c.requires.stage c.requires.nodes c.requires.more c.requires.belongs

@@ -18,11 +18,15 @@ overflow_add-words c =
 
 pub returns-clause-holds : goal.returns-clause-holds
 returns-clause-holds c bs h d =
-    recorded-holds c.args.shape.now bs c.args.words.now c.count.new.words c.args.k (2 * c.args.walk.now.node + c.mark.result) c.args.ending.now c.requires.number h (c.count.ensures bs c.args.k c.requires.number h d)
+    recorded-holds c.args.shape.now bs c.args.words.now c.count.new.words c.args.k
+    (2 * c.args.walk.now.node + c.mark.result) c.args.ending.now c.requires.number h
+    (c.count.ensures bs c.args.k c.requires.number h d)
 
 pub returns-clause-added : goal.returns-clause-added
 returns-clause-added c bs h d =
-    recorded-added c.args.shape.now bs c.args.words.now c.count.new.words c.args.k (2 * c.args.walk.now.node + c.mark.result) c.args.ending.now c.requires.number h (c.count.ensures bs c.args.k c.requires.number h d)
+    recorded-added c.args.shape.now bs c.args.words.now c.count.new.words c.args.k
+    (2 * c.args.walk.now.node + c.mark.result) c.args.ending.now c.requires.number h
+    (c.count.ensures bs c.args.k c.requires.number h d)
 
 pub returns-clause-record : goal.returns-clause-record
 returns-clause-record c =

@@ -1,6 +1,7 @@
 use Rattle.std.proofs.Common.{◌+◌, drop, ap, refl, arith}
 use Rattle.seq_search.specs.Descending.{nodes_down}
-use Rattle.seq_search.proofs.Paces.{gained-is, pace-short, adds-begin, pace-fits, pace-room, may-see, pace, pace-last, step-left, none-left}
+use Rattle.seq_search.proofs.Paces.{gained-is, pace-short, adds-begin, pace-fits, pace-room}
+use Rattle.seq_search.proofs.Paces.{may-see, pace, pace-last, step-left, none-left}
 use Rattle.hex_cells.proofs.Tables.{square_small}
 use Rattle.seq_search.proofs.adding.count.Goals as goal
 
@@ -39,14 +40,16 @@ pub see-requires-clause-within : goal.see-requires-clause-within
 see-requires-clause-within c =
     let cons = step-left c.args.shape.now c.args.words.now c.args.walk.now c.requires.walked c.down.i c.down-test.true in
     let may = may-see c.args.shape.now c.args.words.now c.args.walk.now c.args.ending.now c.down.words c.down.node c.down.player (drop c.down.i (nodes_down c.args.walk.now)) c.board-board.ensures.setting c.down.invariant
-    _ _ cons c.gain.new.words (gained-is c.down.words c.gain.new.words c.down.node c.amount.result c.args.ending.now.winner c.down.player c.other.result c.gain.ensures c.amount.ensures c.other.ensures) c.requires.walked c.amount-in-down.result _ c.amount-in-down.ensures in
+    _ _ cons c.gain.new.words
+    (gained-is c.down.words c.gain.new.words c.down.node c.amount.result c.args.ending.now.winner c.down.player c.other.result c.gain.ensures c.amount.ensures c.other.ensures) c.requires.walked c.amount-in-down.result _ c.amount-in-down.ensures in
     may.within
 
 pub see-requires-clause-cells : goal.see-requires-clause-cells
 see-requires-clause-cells c =
     let cons = step-left c.args.shape.now c.args.words.now c.args.walk.now c.requires.walked c.down.i c.down-test.true in
     let may = may-see c.args.shape.now c.args.words.now c.args.walk.now c.args.ending.now c.down.words c.down.node c.down.player (drop c.down.i (nodes_down c.args.walk.now)) c.board-board.ensures.setting c.down.invariant
-    _ _ cons c.gain.new.words (gained-is c.down.words c.gain.new.words c.down.node c.amount.result c.args.ending.now.winner c.down.player c.other.result c.gain.ensures c.amount.ensures c.other.ensures) c.requires.walked c.amount-in-down.result _ c.amount-in-down.ensures in
+    _ _ cons c.gain.new.words
+    (gained-is c.down.words c.gain.new.words c.down.node c.amount.result c.args.ending.now.winner c.down.player c.other.result c.gain.ensures c.amount.ensures c.other.ensures) c.requires.walked c.amount-in-down.result _ c.amount-in-down.ensures in
     let most = square_small c.args.shape.now.board.size c.board-board.ensures.setting.position.most in
     λ j l. omega (arith, may.cells j l, most)
 
@@ -54,14 +57,16 @@ pub see-requires-clause-small : goal.see-requires-clause-small
 see-requires-clause-small c =
     let cons = step-left c.args.shape.now c.args.words.now c.args.walk.now c.requires.walked c.down.i c.down-test.true in
     let may = may-see c.args.shape.now c.args.words.now c.args.walk.now c.args.ending.now c.down.words c.down.node c.down.player (drop c.down.i (nodes_down c.args.walk.now)) c.board-board.ensures.setting c.down.invariant
-    _ _ cons c.gain.new.words (gained-is c.down.words c.gain.new.words c.down.node c.amount.result c.args.ending.now.winner c.down.player c.other.result c.gain.ensures c.amount.ensures c.other.ensures) c.requires.walked c.amount-in-down.result _ c.amount-in-down.ensures in
+    _ _ cons c.gain.new.words
+    (gained-is c.down.words c.gain.new.words c.down.node c.amount.result c.args.ending.now.winner c.down.player c.other.result c.gain.ensures c.amount.ensures c.other.ensures) c.requires.walked c.amount-in-down.result _ c.amount-in-down.ensures in
     may.small
 
 pub down-preserved : goal.down-preserved
 down-preserved c =
     let cons = step-left c.args.shape.now c.args.words.now c.args.walk.now c.requires.walked c.down.i c.down-test.true in
     pace c.args.shape.now c.args.words.now c.args.walk.now c.args.ending.now c.down.words c.down.node c.down.player (drop c.down.i (nodes_down c.args.walk.now)) c.board-board.ensures.setting c.down.invariant
-    _ _ cons c.gain.new.words (gained-is c.down.words c.gain.new.words c.down.node c.amount.result c.args.ending.now.winner c.down.player c.other.result c.gain.ensures c.amount.ensures c.other.ensures)
+    _ _ cons c.gain.new.words
+    (gained-is c.down.words c.gain.new.words c.down.node c.amount.result c.args.ending.now.winner c.down.player c.other.result c.gain.ensures c.amount.ensures c.other.ensures)
     c.see.new.words _ _ c.stones-stones.result c.amount-in-down.result refl refl c.stones-stones.ensures.value c.amount-in-down.ensures c.see.ensures _ c.other-player.result refl c.other-player.ensures
 
 pub gain-requires-2-clause-within : goal.gain-requires-2-clause-within
@@ -77,4 +82,5 @@ pub returns : goal.returns
 returns c =
     let none = none-left c.args.shape.now c.args.words.now c.args.walk.now c.requires.walked c.down.i (omega (arith, c.down-test.false, c.down.auto.i-end)) in
     pace-last c.args.shape.now c.args.words.now c.args.walk.now c.args.ending.now c.down.words c.down.node c.down.player (drop c.down.i (nodes_down c.args.walk.now)) c.board-board.ensures.setting c.down.invariant
-    none c.gain-2.new.words (gained-is c.down.words c.gain-2.new.words c.down.node c.amount-2.result c.args.ending.now.winner c.down.player c.other-2.result c.gain-2.ensures c.amount-2.ensures c.other-2.ensures)
+    none c.gain-2.new.words
+    (gained-is c.down.words c.gain-2.new.words c.down.node c.amount-2.result c.args.ending.now.winner c.down.player c.other-2.result c.gain-2.ensures c.amount-2.ensures c.other-2.ensures)

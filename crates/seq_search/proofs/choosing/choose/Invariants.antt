@@ -7,4 +7,5 @@ use Rattle.seq_search.proofs.choosing.choose.Given as goal
 abbrev pub invariant-children : goal.invariant-children
 invariant-children l =
     choice_of l.visits l.weight (children_in l.words (l.block + 4) l.count)
-    ≡ chosen_from l.visits l.weight l.place l.best l.most (children_in l.words (l.block + 4 + 4 * l.place) (l.count - l.place))
+    ≡ chosen_from l.visits l.weight l.place l.best l.most
+    (children_in l.words (l.block + 4 + 4 * l.place) (l.count - l.place))

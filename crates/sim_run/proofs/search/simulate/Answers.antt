@@ -1,5 +1,6 @@
 -- No number is a stray one if none was found, and want of memory is another error.
-use Rattle.std.proofs.Common.{rules, ◌≡◌, ℕ, ◌<◌, List, length, ◌++◌, None, Err, slice_index_or, sym, ◌∙◌, subst}
+use Rattle.std.proofs.Common.{rules, ◌≡◌, ℕ, ◌<◌, List, length, ◌++◌, None, Err, slice_index_or}
+use Rattle.std.proofs.Common.{sym, ◌∙◌, subst}
 use Rattle.arena_rule.proofs.Options.{none-some}
 use Rattle.sim_run.specs.Schedules.{first_stray}
 use Rattle.sim_run.specs.declared.errors.SimError.TheVariants.{Memory}
@@ -17,7 +18,9 @@ returns-in_err-run-clause-no_walker c at =
 pub follow-requires-clause-ids : goal.follow-requires-clause-ids
 follow-requires-clause-ids c k d l =
     let none : first_stray c.args.shape.now c.args.schedule.now ≡ None = search rules in
-    subst (λ (n : ℕ). slice_index_or c.args.schedule.now k d < n) (sym c.in_ok-run.ensures.walkers.count) (none-stray c.args.shape.now c.args.schedule.now none k d l)
+    subst (λ (n : ℕ). slice_index_or c.args.schedule.now k d < n)
+    (sym c.in_ok-run.ensures.walkers.count)
+    (none-stray c.args.shape.now c.args.schedule.now none k d l)
 
 -- the steps of the schedule, and then those of the rounds
 pub returns-clause-schedule : goal.returns-clause-schedule
@@ -27,8 +30,10 @@ returns-clause-schedule c =
     let run = c.in_ok-run.run' in
     let turns : ℕ = c.finish.ensures.rounds.0 in
     let ended = c.finish.new.self.walkers.items in
-    let workers : length c.follow.new.self.walkers.items ≡ s.knobs.workers = c.follow.ensures.count ∙ c.in_ok-run.ensures.walkers.count in
-    let all = along-both (data_of run) (data_of c.follow.new.self) (data_of c.finish.new.self) ids (rounds (length c.follow.new.self.walkers.items) turns) c.follow.ensures.along c.finish.ensures.rounds.1 in
+    let workers : length c.follow.new.self.walkers.items ≡ s.knobs.workers = c.follow.ensures.count
+    ∙ c.in_ok-run.ensures.walkers.count in
+    let all = along-both (data_of run) (data_of c.follow.new.self) (data_of c.finish.new.self) ids
+    (rounds (length c.follow.new.self.walkers.items) turns) c.follow.ensures.along c.finish.ensures.rounds.1 in
     record {
       begun = run.walkers.items;
       new = c.in_ok-run.ensures.walkers;

@@ -10,7 +10,9 @@ workers-preserved c =
     let new = c.push_reserved.ensures in
     let was = c.workers.invariant in
     record {
-      each = subst (All (IsNew c.args.shape.now)) (sym new.items) (All-push (IsNew c.args.shape.now) c.workers.walkers.items c.new.result was.each c.new.ensures.belongs);
-      count = ap length new.items ∙ length_push c.workers.walkers.items c.new.result ∙ ap (λ (n : ℕ). n + 1) was.count;
+      each = subst (All (IsNew c.args.shape.now)) (sym new.items)
+          (All-push (IsNew c.args.shape.now) c.workers.walkers.items c.new.result was.each c.new.ensures.belongs);
+      count = ap length new.items ∙ length_push c.workers.walkers.items c.new.result
+          ∙ ap (λ (n : ℕ). n + 1) was.count;
       room = omega (arith, was.room, new.capacity);
     }

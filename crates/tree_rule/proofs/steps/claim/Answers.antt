@@ -12,5 +12,7 @@ fetch_add-requires c =
     let size = c.args.size in (
       sits.table,
       omega (arith, word-within v sits.view (Claim size) c.requires.fits, sits.words),
-      acts c.args.shared.now.key _ c.args.seat.now.id c.args.seat.now.me (Claim size) sits.view c.requires.fits (λ n. (n + size) % 2 ^ 64) (λ x low may. claim-same v sits.view size x (omega arith) may),
+      acts c.args.shared.now.key _ c.args.seat.now.id c.args.seat.now.me
+          (Claim size) sits.view c.requires.fits (λ n. (n + size) % 2 ^ 64)
+          (λ x low may. claim-same v sits.view size x (omega arith) may),
     )

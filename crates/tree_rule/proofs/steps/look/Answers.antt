@@ -11,5 +11,6 @@ load-requires c =
     let v = c.args.seat.now.me.0 in (
       sits.table,
       omega (arith, word-within v sits.view (Look c.args.i) c.requires.fits, sits.words),
-      acts c.args.shared.now.key _ c.args.seat.now.id c.args.seat.now.me (Look c.args.i) sits.view c.requires.fits (λ n. n) (λ x low may. refl),
+      acts c.args.shared.now.key _ c.args.seat.now.id c.args.seat.now.me
+          (Look c.args.i) sits.view c.requires.fits (λ n. n) (λ x low may. refl),
     )

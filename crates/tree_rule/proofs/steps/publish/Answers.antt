@@ -15,5 +15,7 @@ compare_exchange-requires c =
     let block = c.args.block in (
       sits.table,
       omega (arith, word-within v sits.view (Publish link block) c.requires.fits, sits.words),
-      acts c.args.shared.now.key _ c.args.seat.now.id c.args.seat.now.me (Publish link block) sits.view c.requires.fits (λ n. either (n == 0) block n) (λ x low may. publish-same link block x),
+      acts c.args.shared.now.key _ c.args.seat.now.id c.args.seat.now.me
+          (Publish link block) sits.view c.requires.fits (λ n. either (n == 0) block n)
+          (λ x low may. publish-same link block x),
     )

@@ -11,5 +11,7 @@ store-requires c =
     let v = c.args.seat.now.me.0 in (
       sits.table,
       omega (arith, word-within v sits.view (Write c.args.i c.args.value) c.requires.fits, sits.words),
-      acts c.args.shared.now.key _ c.args.seat.now.id c.args.seat.now.me (Write c.args.i c.args.value) sits.view c.requires.fits (λ _. c.args.value) (λ x low may. refl),
+      acts c.args.shared.now.key _ c.args.seat.now.id c.args.seat.now.me
+          (Write c.args.i c.args.value) sits.view c.requires.fits (λ _. c.args.value)
+          (λ x low may. refl),
     )

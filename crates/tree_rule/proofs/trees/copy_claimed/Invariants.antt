@@ -5,4 +5,5 @@ use Rattle.tree_rule.proofs.Copies.{Copied}
 use Rattle.tree_rule.proofs.trees.copy_claimed.Given as goal
 
 abbrev pub invariant-loop-i : goal.invariant-loop-i
-invariant-loop-i l = Copied (slots_items l.table.words) (next_in (slots_items l.table.words)) l.i l.room
+invariant-loop-i l
+    = Copied (slots_items l.table.words) (next_in (slots_items l.table.words)) l.i l.room

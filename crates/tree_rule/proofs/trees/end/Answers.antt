@@ -12,7 +12,8 @@ use Rattle.std.proofs.lemmas.List.{take_at}
 pub copy_claimed-requires-clause-long : goal.copy_claimed-requires-clause-long
 copy_claimed-requires-clause-long c =
     let stands = c.requires.stands in
-    c.close_with-closed.ensures.counts.0 ∙ stands.words ∙ sym (ap length (c.deref_mut.ensures.value ∙ stands.room_is) ∙ (opening-are c.args.table.shared.key stands.setting).long)
+    c.close_with-closed.ensures.counts.0 ∙ stands.words
+    ∙ sym (ap length (c.deref_mut.ensures.value ∙ stands.room_is) ∙ (opening-are c.args.table.shared.key stands.setting).long)
 
 pub copy_claimed-requires-clause-some : goal.copy_claimed-requires-clause-some
 copy_claimed-requires-clause-some c =
@@ -24,8 +25,11 @@ copy_claimed-requires-clause-same c =
     let s = c.args.table.shared.key in
     let last = c.close_with-closed.ensures.values.2 in
     let words : List ℕ = slots_items c.close_with-closed.result.words in
-    let same : IsSameBehind words (opening_words s) = subst (λ (ws : List ℕ). IsSameBehind ws (opening_words s)) last.2 (beyond s last.0.words last.0.views last.1.0) in
-    subst (λ (room : List ℕ). IsSameBehind words room) (sym (c.deref_mut.ensures.value ∙ c.requires.stands.room_is)) same
+    let same : IsSameBehind words (opening_words s)
+    = subst (λ (ws : List ℕ). IsSameBehind ws (opening_words s)) last.2
+    (beyond s last.0.words last.0.views last.1.0) in
+    subst (λ (room : List ℕ). IsSameBehind words room)
+    (sym (c.deref_mut.ensures.value ∙ c.requires.stands.room_is)) same
 
 pub returns : goal.returns
 returns c =
@@ -43,5 +47,6 @@ returns c =
       (slots_counts c.close_with-closed.result.words).0,
       ap length copied,
     ) in
-    let same = take_at c.copy_claimed.new.room _ c.args.room.len (sym long ∙ c.deref_mut.ensures.len) in
+    let same = take_at c.copy_claimed.new.room _ c.args.room.len
+    (sym long ∙ c.deref_mut.ensures.len) in
     record { views = last.0.views; rule = subst (λ (words : List ℕ). Rule s words last.0.views) (last.2 ∙ sym (same ∙ copied)) last.1.0; at = last.1.1 }

@@ -7,7 +7,8 @@ use Rattle.hex_engine.proofs.Using.{nothing_moved, over_reply, moved_reply, reac
 use Rattle.hex_engine.proofs.state.Engine.generate.Goals as goal
 
 pub returns-in_default-clause-reply : goal.returns-in_default-clause-reply
-returns-in_default-clause-reply g c = ([], nothing_moved _ _, λ later. ap (moving_by c.args.self.now later) (sym c.lone_colour.ensures ∙ c.in_default.is))
+returns-in_default-clause-reply g c
+    = ([], nothing_moved _ _, λ later. ap (moving_by c.args.self.now later) (sym c.lone_colour.ensures ∙ c.in_default.is))
 
 pub returns-then-not-may_move-clause-reply : goal.returns-then-not-may_move-clause-reply
 returns-then-not-may_move-clause-reply g c =
@@ -23,6 +24,8 @@ returns-clause-reply g c =
     (λ answer h. (
       h.0 ∷ [],
       record { took = h.3; good = (h.1, tt) },
-      λ later. moved_reply c.args.self.now c.in-Some.colour h.0 c.args.args.now (sym c.lone_colour.ensures ∙ c.in-Some.is) open_game h.2 later ∙ reacts_reply _ answer _ later h.4,
+      λ later. moved_reply c.args.self.now c.in-Some.colour h.0 c.args.args.now
+          (sym c.lone_colour.ensures ∙ c.in-Some.is) open_game h.2 later
+          ∙ reacts_reply _ answer _ later h.4,
     ))
     c.take_turn.ensures.reply

@@ -2,7 +2,8 @@ use Rattle.std.proofs.Common.{refl, inl, sym, ap, ◌∙◌}
 use Rattle.hex_engine.specs.Supply.{nothing_left}
 use Rattle.hex_engine.specs.Requests.{obeyed}
 use Rattle.hex_io.proofs.ResultLaws.{on_err}
-use Rattle.hex_engine.proofs.Using.{uses_nothing, nothing_used, unknown_reply, known_reply, reacts_reply}
+use Rattle.hex_engine.proofs.Using.{uses_nothing, nothing_used, unknown_reply, known_reply}
+use Rattle.hex_engine.proofs.Using.{reacts_reply}
 use Rattle.hex_engine.proofs.state.Engine.line.Goals as goal
 
 pub returns-in_default-clause-reply : goal.returns-in_default-clause-reply

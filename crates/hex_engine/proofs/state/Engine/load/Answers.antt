@@ -7,7 +7,8 @@ use Rattle.hex_engine.proofs.Using.{unfetched, loads_reply}
 use Rattle.hex_engine.proofs.state.Engine.load.Goals as goal
 
 pub returns-in_default-clause-reply : goal.returns-in_default-clause-reply
-returns-in_default-clause-reply g c = ([], unfetched _, λ later. ap (loading_by c.args.self.now later) (sym c.in_default.ensures))
+returns-in_default-clause-reply g c
+    = ([], unfetched _, λ later. ap (loading_by c.args.self.now later) (sym c.in_default.ensures))
 
 pub returns-in-Unread-clause-reply : goal.returns-in-Unread-clause-reply
 returns-in-Unread-clause-reply g c = (

@@ -16,7 +16,8 @@ rounds-preserved c =
       along = (
         suc was.along.0,
         along-round (data_of c.args.self.now) (data_of c.rounds.self) (data_of c.round.new.self)
-            (length c.args.self.now.walkers.items) (length c.rounds.self.walkers.items) was.along.0 was.count was.along.1 c.round.ensures.round,
+            (length c.args.self.now.walkers.items)
+            (length c.rounds.self.walkers.items) was.along.0 was.count was.along.1 c.round.ensures.round,
       );
     }
 
@@ -30,8 +31,10 @@ returns-then-not-round-clause-rounds c =
     let was = c.rounds.invariant in (
       suc was.along.0,
       along-round (data_of c.args.self.now) (data_of c.rounds.self) (data_of c.round.new.self)
-          (length c.args.self.now.walkers.items) (length c.rounds.self.walkers.items) was.along.0 was.count was.along.1 c.round.ensures.round,
+          (length c.args.self.now.walkers.items)
+          (length c.rounds.self.walkers.items) was.along.0 was.count was.along.1 c.round.ensures.round,
     )
 
 pub returns-then-not-round-clause-finished : goal.returns-then-not-round-clause-finished
-returns-then-not-round-clause-finished c = let none : c.round.result ≡ false = search rules in c.round.ensures.none none
+returns-then-not-round-clause-finished c = let none : c.round.result ≡ false = search rules in
+    c.round.ensures.none none

@@ -9,7 +9,8 @@ invariant-rounds l = record {
   underway : IsUnderway l.self;
   shape : l.self.shape ≡ l.fn.self.shape;
   count : length l.self.walkers.items ≡ length l.fn.self.walkers.items;
-  along : (turns : ℕ) × StepsAlong (data_of l.fn.self) (rounds (length l.fn.self.walkers.items) turns) (data_of l.self);
+  along : (turns : ℕ) × StepsAlong (data_of l.fn.self)
+      (rounds (length l.fn.self.walkers.items) turns) (data_of l.self);
 }
 
 abbrev pub decreases-rounds : goal.decreases-rounds

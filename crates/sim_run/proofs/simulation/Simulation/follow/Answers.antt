@@ -12,6 +12,7 @@ entries-preserved c =
       underway = c.step.ensures.underway;
       shape = c.step.ensures.shape ∙ was.shape;
       count = c.step.ensures.count ∙ was.count;
-      along = along-entry (data_of c.args.self.now) (data_of c.entries.self) (data_of c.step.new.self) c.step.result c.args.schedule.now c.entries.id-index c.from.result 0
+      along = along-entry (data_of c.args.self.now) (data_of c.entries.self)
+          (data_of c.step.new.self) c.step.result c.args.schedule.now c.entries.id-index c.from.result 0
           c.entries-test.true entry was.along c.step.ensures.step;
     }

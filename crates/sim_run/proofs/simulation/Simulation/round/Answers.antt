@@ -1,5 +1,6 @@
 -- One more walker had its turn.
-use Rattle.std.proofs.Common.{rules, ◌≡◌, ◌<◌, Bool, IfSome, true, false, is_some, sym, ◌∙◌, ◌+◌, subst, arith}
+use Rattle.std.proofs.Common.{rules, ◌≡◌, ◌<◌, Bool, IfSome, true, false, is_some, sym, ◌∙◌, ◌+◌}
+use Rattle.std.proofs.Common.{subst, arith}
 use Rattle.tree_words.specs.Settings.{Setting}
 use Rattle.sim_run.specs.BetweenSteps.{steps_to_come}
 use Rattle.sim_run.specs.Steps.{data_of}
@@ -17,7 +18,8 @@ walkers-preserved c =
     let new = data_of c.step.new.self in
     let fewer : IfSome c.step.result (λ _. steps_to_come s new < steps_to_come s old)
     = subst (λ (t : Setting). IfSome c.step.result (λ _. steps_to_come t new < steps_to_come t old)) was.shape c.step.ensures.fewer in
-    let turns : HaveStepped s start new c.if-is_some.stepped (c.walkers.id + 1) = elim c.if-is_some.branch [
+    let turns : HaveStepped s start new c.if-is_some.stepped (c.walkers.id + 1)
+    = elim c.if-is_some.branch [
       | then-is_some w ↦
           let made : is_some c.step.result ≡ true = search rules in
           subst (λ (b : Bool). HaveStepped s start new b (c.walkers.id + 1)) (sym w.stepped-is)
@@ -39,4 +41,6 @@ walkers-preserved c =
 pub returns-clause-none : goal.returns-clause-none
 returns-clause-none c e =
     let was = c.walkers.invariant in
-    round-over c.args.self.now.shape (data_of c.args.self.now) (data_of c.walkers.self) c.walkers.stepped c.walkers.id was.turns (omega (arith, was.end, was.count, c.walkers-test.false)) e
+    round-over c.args.self.now.shape (data_of c.args.self.now)
+    (data_of c.walkers.self) c.walkers.stepped c.walkers.id was.turns
+    (omega (arith, was.end, was.count, c.walkers-test.false)) e

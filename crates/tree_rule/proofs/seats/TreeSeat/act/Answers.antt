@@ -21,11 +21,14 @@ invariant_of-self c = subst (λ id. IsSeatOf id c.step.new.seat) (sym c.step.ens
 pub returns-clause-own : goal.returns-clause-own
 returns-clause-own c = record {
   table = c.step.ensures.table ∙ ap (λ s. s.table) c.self.view_is ∙ c.requires.own.table;
-  shape = ap (λ v. v.shape) c.step.ensures.told.view ∙ shape-after c.self.inside.seat.me.0 c.args.op c.step.result ∙ ap (λ s. s.view.shape) c.self.view_is ∙ c.requires.own.shape;
+  shape = ap (λ v. v.shape) c.step.ensures.told.view
+      ∙ shape-after c.self.inside.seat.me.0 c.args.op c.step.result
+      ∙ ap (λ s. s.view.shape) c.self.view_is ∙ c.requires.own.shape;
 }
 
 pub returns-clause-rule : goal.returns-clause-rule
-returns-clause-rule c = subst (λ (v : SeatView). IsMadeInRule v c.args.op c.step.result) (ap (λ s. s.view) c.self.view_is) c.step.ensures.told.made
+returns-clause-rule c = subst (λ (v : SeatView). IsMadeInRule v c.args.op c.step.result)
+    (ap (λ s. s.view) c.self.view_is) c.step.ensures.told.made
 
 pub returns-clause-order : goal.returns-clause-order
 returns-clause-order c = (sits c).view
@@ -38,4 +41,5 @@ returns-clause-known c b n =
 pub returns-clause-visits : goal.returns-clause-visits
 returns-clause-visits c x known e =
     let view = ap (λ s. s.view) c.self.view_is in
-    own-visits c.args.self.now.view c.args.op c.step.result x (subst (λ (v : SeatView). MayAnswer v c.args.op c.step.result) view c.step.ensures.told.answer) known e
+    own-visits c.args.self.now.view c.args.op c.step.result x
+    (subst (λ (v : SeatView). MayAnswer v c.args.op c.step.result) view c.step.ensures.told.answer) known e

@@ -17,7 +17,8 @@ returns-clause-rule c =
     let v = c.self.inside.seat.me.0 in
     let mine = ap (λ s. s.view) c.self.view_is in
     let others = ap (λ s. s.view) c.other.view_is in
-    let can = subst (λ (w : SeatView). CanJoin w c.other.inside.seat.me.0) (sym mine) (subst (CanJoin c.args.self.now.view) (sym others) c.requires.can) in
+    let can = subst (λ (w : SeatView). CanJoin w c.other.inside.seat.me.0) (sym mine)
+    (subst (CanJoin c.args.self.now.view) (sym others) c.requires.can) in
     subst (λ (w : SeatView). JoinKeepsRule w c.args.other.view c.merge.new.seat.me.0) mine
     (subst (λ (w : SeatView). JoinKeepsRule v w c.merge.new.seat.me.0) others
     (join-keeps v c.other.inside.seat.me.0 _ c.self.invariant.view can c.merge.ensures.both))

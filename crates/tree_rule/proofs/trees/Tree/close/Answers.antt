@@ -11,11 +11,13 @@ told c =
     end-told c.self.inside.table.shared.key c.args.self.shape c.seat.inside.seat.id c.seat.inside.seat.me.0 c.args.seat.view c.end.result.items c.end.ensures (c.self.invariant.0 ∙ shape) view c.requires.all c.requires.ended
 
 pub of-requires : goal.of-requires
-of-requires c = subst (λ s. IsClosed s c.end.result.items) (sym (ap (λ t. t.shape) c.self.view_is)) (told c).closed
+of-requires c = subst (λ s. IsClosed s c.end.result.items) (sym (ap (λ t. t.shape) c.self.view_is))
+    (told c).closed
 
 -- of the words of the answer
 told-of : (c : goal.After-of) → EndsSo c.args.self.shape c.args.seat.view c.of.result.words
-told-of c = subst (λ words. EndsSo c.args.self.shape c.args.seat.view words) (sym (ap (λ t. t.words) c.of.ensures)) (told c.before)
+told-of c = subst (λ words. EndsSo c.args.self.shape c.args.seat.view words)
+    (sym (ap (λ t. t.words) c.of.ensures)) (told c.before)
 
 pub returns-clause-known : goal.returns-clause-known
 returns-clause-known c = (told-of c).known

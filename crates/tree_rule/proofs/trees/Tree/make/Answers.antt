@@ -15,7 +15,9 @@ use Rattle.tree_rule.proofs.trees.Tree.make.Goals as goal
 pub of_words-requires : goal.of_words-requires
 of_words-requires c =
     let s = c.args.shape.now in
-    subst (λ (words : List ℕ). Rule s words (opening_view s ∷ [])) (sym (c.as_slice.ensures.value ∙ c.in_ok-room.ensures)) (begins s c.board-board.ensures.setting)
+    subst (λ (words : List ℕ). Rule s words (opening_view s ∷ []))
+    (sym (c.as_slice.ensures.value ∙ c.in_ok-room.ensures))
+    (begins s c.board-board.ensures.setting)
 
 pub invariant_of-tree : goal.invariant_of-tree
 invariant_of-tree c =
@@ -23,7 +25,8 @@ invariant_of-tree c =
       c.in-Ok.ensures.5,
       record {
         setting = subst IsSetting (sym c.in-Ok.ensures.5) set;
-        words = c.in-Ok.ensures.0 ∙ ap length (c.as_slice.ensures.value ∙ c.in_ok-room.ensures) ∙ (opening-are c.args.shape.now set).long ∙ ap end_of (sym c.in-Ok.ensures.5);
+        words = c.in-Ok.ensures.0 ∙ ap length (c.as_slice.ensures.value ∙ c.in_ok-room.ensures)
+            ∙ (opening-are c.args.shape.now set).long ∙ ap end_of (sym c.in-Ok.ensures.5);
         slots = c.in-Ok.ensures.1;
         room_is = c.in_ok-room.ensures ∙ ap opening_words (sym c.in-Ok.ensures.5);
       },
@@ -36,12 +39,17 @@ invariant_of-result c =
     record {
       table = refl;
       slots = ap (λ (m : Me ℕ SeatView). m.1) me;
-      words = ap (λ t. t.words) c.in-Ok.ensures.2 ∙ c.in-Ok.ensures.0 ∙ ap length (c.as_slice.ensures.value ∙ c.in_ok-room.ensures) ∙ (opening-are c.args.shape.now set).long ∙ sym (ap (λ (m : Me ℕ SeatView). end_of m.0.shape) me);
-      view = subst IsView (sym (ap (λ (m : Me ℕ SeatView). m.0) me)) (opening-order c.args.shape.now set);
+      words = ap (λ t. t.words) c.in-Ok.ensures.2 ∙ c.in-Ok.ensures.0
+          ∙ ap length (c.as_slice.ensures.value ∙ c.in_ok-room.ensures)
+          ∙ (opening-are c.args.shape.now set).long
+          ∙ sym (ap (λ (m : Me ℕ SeatView). end_of m.0.shape) me);
+      view = subst IsView (sym (ap (λ (m : Me ℕ SeatView). m.0) me))
+          (opening-order c.args.shape.now set);
     }
 
 pub returns-clause-rule : goal.returns-clause-rule
 returns-clause-rule c =
     let s = c.args.shape.now in
     let me = c.in-Ok.ensures.4 in
-    subst (λ (v : SeatView). Rule s (opening_words s) (v ∷ [])) (sym (ap (λ (m : Me ℕ SeatView). m.0) me)) (begins s c.board-board.ensures.setting)
+    subst (λ (v : SeatView). Rule s (opening_words s) (v ∷ []))
+    (sym (ap (λ (m : Me ℕ SeatView). m.0) me)) (begins s c.board-board.ensures.setting)

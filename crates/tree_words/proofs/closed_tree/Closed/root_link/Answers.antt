@@ -14,5 +14,6 @@ pub returns-clause-range : goal.returns-clause-range
 returns-clause-range c =
     let s : Setting = c.args.self.now.shape in
     let set : IsSetting s = subst IsSetting c.shape.ensures.value c.shape.ensures.setting in
-    let root : HasRoot s c.args.self.now.words = has_root s c.args.self.now.words set c.words-words.ensures.closed in
+    let root : HasRoot s c.args.self.now.words
+    = has_root s c.args.self.now.words set c.words-words.ensures.closed in
     omega (arith, root.within, c.words-words.ensures.closed.long, set.ranges.playouts.1, set.ranges.words.1)

@@ -12,6 +12,8 @@ returns c =
     let won = c.self.inside.won in (
       λ t.
           let none = eqb-true h.left 0 t in
-          sym c.self.view_is ∙ (λ i. none-in h.first won h.cells h.left none i ++ none-in n.first won n.cells n.left (c.self.invariant.2 none) i),
-      λ e. eq-eqb h.left 0 (done-in h.first won h.cells h.left (half_adds n.first won n.cells n.left) (omega arith) (c.self.view_is ∙ e)),
+          sym c.self.view_is
+          ∙ (λ i. none-in h.first won h.cells h.left none i ++ none-in n.first won n.cells n.left (c.self.invariant.2 none) i),
+      λ e. eq-eqb h.left 0
+          (done-in h.first won h.cells h.left (half_adds n.first won n.cells n.left) (omega arith) (c.self.view_is ∙ e)),
     )

@@ -11,5 +11,6 @@ returns-else-half-ne0 c =
     let won = c.args.won in
     let e = c.none.result in
     let rest = half_adds n.first won n.cells n.left in
-    ap (λ adds. rest ++ adds) (none-in e.first won e.cells e.left c.none.ensures.1) ∙ (append-nil rest
+    ap (λ adds. rest ++ adds) (none-in e.first won e.cells e.left c.none.ensures.1)
+    ∙ (append-nil rest
     ∙ sym (ap (λ adds. adds ++ rest) (none-in h.first won h.cells h.left c.if-half-ne0.false)))

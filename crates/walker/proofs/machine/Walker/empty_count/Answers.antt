@@ -4,4 +4,6 @@ use Rattle.tree_words.proofs.Boards.EmptyLaws.{count_empties}
 use Rattle.walker.proofs.machine.Walker.empty_count.Goals as goal
 
 pub returns-clause-value : goal.returns-clause-value
-returns-clause-value c = c.count.ensures.value ∙ count_empties c.empties.result c.args.self.now.board (omega (arith, c.size-size.ensures.value, c.size-size.ensures.range)) c.empties.ensures
+returns-clause-value c = c.count.ensures.value
+    ∙ count_empties c.empties.result c.args.self.now.board
+    (omega (arith, c.size-size.ensures.value, c.size-size.ensures.range)) c.empties.ensures

@@ -8,5 +8,6 @@ pub returns : goal.returns
 returns c =
     let cells = ap (λ (d : NewNodesData). d.cells) c.self.view_is in (
       λ t. sym cells ∙ by-number-none c.self.inside.left (c.is_empty.ensures.0 t),
-      λ e. c.is_empty.ensures.1 (by-number-empty c.self.inside.left (c.bits-bits.result) c.bits-bits.ensures.value c.bits-bits.ensures.range (cells ∙ e)),
+      λ e. c.is_empty.ensures.1
+          (by-number-empty c.self.inside.left (c.bits-bits.result) c.bits-bits.ensures.value c.bits-bits.ensures.range (cells ∙ e)),
     )

@@ -14,7 +14,9 @@ pub returns-in-Seen : goal.returns-in-Seen
 returns-in-Seen c =
     let d : ScanData = c.args.self.now in
     let k : ScanData = kept d (child_in d c.args.answer) in
-    let phase : d.phase ≡ Seen = sym (ap (λ (z : ScanData). z.phase) c.self.view_is) ∙ c.in-Seen.is in
-    ap (λ (z : ScanData). record z { at = z.at + 1; phase = Move }) (c.self-in-Seen.view_is ∙ c.keep.ensures)
+    let phase : d.phase ≡ Seen = sym (ap (λ (z : ScanData). z.phase) c.self.view_is)
+    ∙ c.in-Seen.is in
+    ap (λ (z : ScanData). record z { at = z.at + 1; phase = Move })
+    (c.self-in-Seen.view_is ∙ c.keep.ensures)
     ∙ (λ i. record k { at = kept-at d (child_in d c.args.answer) i + 1; phase = Move; place = d.place + 1 })
     ∙ sym (ap (λ (p : Phase). scan_on p d c.args.answer) phase)

@@ -6,6 +6,8 @@ use Rattle.walker.proofs.ways.Way.is_none.Goals as goal
 
 pub returns : goal.returns
 returns c = (
-  λ t. sym c.self.view_is ∙ levels-at c.self.inside.levels c.self.inside.depth (eqb-true c.self.inside.depth 0 t),
-  λ e. eq-eqb c.self.inside.depth 0 (omega (arith, levels-long c.self.inside.levels c.self.inside.depth (omega (arith, c.self.invariant)), ap length (c.self.view_is ∙ e))),
+  λ t. sym c.self.view_is ∙ levels-at c.self.inside.levels c.self.inside.depth
+      (eqb-true c.self.inside.depth 0 t),
+  λ e. eq-eqb c.self.inside.depth 0
+      (omega (arith, levels-long c.self.inside.levels c.self.inside.depth (omega (arith, c.self.invariant)), ap length (c.self.view_is ∙ e))),
 )

@@ -8,7 +8,8 @@ pub listed : goal.listed
 listed c = omega (arith, c.self.invariant, c.requires, levels-long c.self.inside.levels c.self.inside.depth (omega (arith, c.self.invariant)), ap length c.self.view_is)
 
 pub bounds-self-inside-self-inside : goal.bounds-self-inside-self-inside
-bounds-self-inside-self-inside c = omega (arith, c.self.invariant, c.requires, levels-long c.self.inside.levels c.self.inside.depth (omega (arith, c.self.invariant)), ap length c.self.view_is)
+bounds-self-inside-self-inside c
+    = omega (arith, c.self.invariant, c.requires, levels-long c.self.inside.levels c.self.inside.depth (omega (arith, c.self.invariant)), ap length c.self.view_is)
 
 pub invariant_of-self : goal.invariant_of-self
 invariant_of-self c = (
