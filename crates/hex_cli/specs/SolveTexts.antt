@@ -4,13 +4,13 @@ use Rattle.std.specs.Prelude.{List, ◌++◌, Some, None, codes, length}
 use Rattle.std.specs.Fmt.{decimal}
 use Rattle.std.specs.List.{slice_get}
 use Rattle.std.specs.Option.{option_map_or}
-use Rattle.hex_cells.specs.Colours.{other_of}
+use Rattle.hex_cells.specs.Colours.{colour_word, other_of}
 use Rattle.hex_cells.specs.declared.colours.Colour.{Colour}
 use Rattle.hex_cells.specs.declared.colours.Colour.TheVariants.{Black}
 use Rattle.hex_board.specs.Joined.{winner_of}
 use Rattle.hex_board.specs.Positions.{Position}
 use Rattle.hex_board.specs.Wins.{Wins, empty_count}
-use Rattle.win_cert.specs.Texts.{cert_text, colour_word}
+use Rattle.win_cert.specs.Texts.{cert_text}
 use Rattle.win_cert.specs.Writable.{IsWritable}
 use Rattle.win_cert.specs.declared.certs.TheConstants.{MOST_LINES}
 use Rattle.hex_game.specs.Games.{GameData, board_of}

@@ -7,9 +7,9 @@ ghost use Rattle.win_cert.specs.Writable.{IsWritable};
 ghost use Rattle.hex_cli.specs.CertTexts.{IsCheckText, IsMigrateText, is_yes, refusal_text};
 ghost use Rattle.hex_cli.specs.CertTexts.{verdict_text};
 
-use crate::numbers::push_number;
 use cert_check::check;
 use conn_store::Kind;
+use hex_cells::push_number;
 use hex_devices::InputAnswer;
 use std::alloc::{AllocError, Global};
 use win_cert::{Cert, CertError, Verdict, raise, read, write};

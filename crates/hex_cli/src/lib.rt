@@ -77,7 +77,6 @@ mod audits;
 mod certificates;
 mod kinds;
 mod limits;
-mod numbers;
 mod playing;
 mod serving;
 mod single_turns;

@@ -2,13 +2,13 @@
 
 ghost use Rattle.std.specs.Prelude.{◌≡◌, ◌⊎◌, ◌++◌, IfOk, codes};
 ghost use Rattle.std.specs.Fmt.{decimal};
-ghost use Rattle.win_cert.specs.Texts.{cert_text, colour_word};
+ghost use Rattle.hex_cells.specs.Colours.{colour_word};
+ghost use Rattle.win_cert.specs.Texts.{cert_text};
 ghost use Rattle.win_cert.specs.Writable.{IsWritable};
 ghost use Rattle.hex_cli.specs.SolveTexts.{IsOverText, IsSolveText, IsSolvedText, CanBeWritten};
 ghost use Rattle.hex_cli.specs.SolveTexts.{next_mover, solved_text};
 
-use crate::numbers::push_number;
-use hex_cells::Colour;
+use hex_cells::{Colour, push_number};
 use hex_devices::InputAnswer;
 use hex_game::{Game, Step};
 use hex_solve::{Solved, solve};
@@ -71,7 +71,7 @@ fn over_text(alloc: Global, winner: Colour) -> Result<Vec<u8>, AllocError>
         ≡ codes "over " ++ (colour_word winner ++ codes "\n")) }
 {
     let mut text = b"over ".to_vec(alloc)?;
-    text.extend_from_slice(colour_name(winner))?;
+    text.extend_from_slice(winner.word())?;
     text.push(b'\n')?;
     Ok(text)
 }
@@ -99,7 +99,7 @@ fn won_text(alloc: Global, winner: Colour, cert: &Cert) -> Result<Vec<u8>, Alloc
         return Err(AllocError);
     };
     let mut text = b"won ".to_vec(alloc)?;
-    text.extend_from_slice(colour_name(winner))?;
+    text.extend_from_slice(winner.word())?;
     text.push(b'\n')?;
     text.extend_from_slice(written.as_slice())?;
     Ok(text)
@@ -121,18 +121,9 @@ fn long_text(alloc: Global, winner: Colour, lines: u64) -> Result<Vec<u8>, Alloc
         ++ (colour_word winner ++ (codes " " ++ (decimal lines ++ codes "\n")))) }
 {
     let mut text = b"too long ".to_vec(alloc)?;
-    text.extend_from_slice(colour_name(winner))?;
+    text.extend_from_slice(winner.word())?;
     text.push(b' ')?;
     push_number(alloc, &mut text, lines)?;
     text.push(b'\n')?;
     Ok(text)
-}
-
-fn colour_name(colour: Colour) -> &'static [u8]
-    ensures { result.now ≡ colour_word colour }
-{
-    match colour {
-        Colour::Black => b"black",
-        Colour::White => b"white",
-    }
 }

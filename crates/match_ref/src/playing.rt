@@ -7,7 +7,6 @@ ghost use Rattle.hex_game.specs.Moves.{step_of};
 ghost use Rattle.hex_game.specs.declared.moves.Move.TheVariants.{Stone};
 ghost use Rattle.hex_game.specs.declared.moves.TheConstants.{MOST_STEPS};
 ghost use Rattle.hex_plan.specs.Openings.{may_move};
-ghost use Rattle.hex_board.specs.Positions.{empty_board};
 ghost use Rattle.tree_words.specs.Settings.{AreInRange};
 ghost use Rattle.match_ref.specs.Matches.{IsMatch, IsMatchGame, IsTurnCell, is_side_a, side_knobs};
 ghost use Rattle.match_ref.specs.Matches.{turns_made};
@@ -18,7 +17,7 @@ use super::played::{Played, Steps};
 use super::refusals::Memory;
 use super::settings::{Match, Side};
 use hex_board::Board;
-use hex_cells::{Cell, CellSet, Colour, Size};
+use hex_cells::{Cell, Colour};
 use hex_game::{Game, Move};
 use hex_plan::may_move;
 use search_team::OpenGate;
@@ -91,13 +90,6 @@ fn turn_cell<R: Threads + Sync>(
     Ok(turn.cell())
 }
 
-/// The board of this size without stones.
-pub fn bare_board(size: Size) -> Board
-    ensures { result ≡ empty_board size }
-{
-    Board::of(size, CellSet::none(), CellSet::none())
-}
-
 // Puts the mover's stone on the cell.
 fn put_stone(game: &mut Game, mover: Colour, cell: Cell)
     requires on_board { IsOnBoard (board_of game.old) (Stone cell) }
@@ -134,7 +126,7 @@ pub fn play_game<R: Threads + Sync>(
     ensures { IfOk result (IsMatchGame setup.now pass) }
 {
     let number = pass.number();
-    let bare = bare_board(setup.size);
+    let bare = Board::empty(setup.size);
     let mut game = Game::make(alloc, &bare)?;
     let mut mover = Colour::Black;
     'moves: while may_move(game.board()) {

@@ -7,9 +7,9 @@ ghost use Rattle.match_ref.specs.MatchTexts.{record_line};
 ghost use Rattle.match_ref.specs.Matches.{game_with};
 
 use super::played::Played;
-use super::playing::bare_board;
 use super::refusals::Memory;
 use super::settings::Match;
+use hex_board::Board;
 use hex_game::{Game, Step};
 use sgf_game::game_text;
 use std::alloc::Global;
@@ -27,7 +27,7 @@ fn game_again(alloc: Global, setup: &Match, played: &Played) -> Result<Game, Mem
     requires { AreLegal (empty_board setup.now.size) played.now.steps }
     ensures { IfOk result (λ game. game ≡ game_with setup.now played.now.steps) }
 {
-    let bare = bare_board(setup.size);
+    let bare = Board::empty(setup.size);
     let mut game = Game::make(alloc, &bare)?;
     for step in played.steps.as_slice() {
         take_step(&mut game, step);

@@ -1,10 +1,8 @@
 //! The text of a match.
 
 ghost use Rattle.std.specs.Prelude.{◌≡◌, ◌++◌, All, IfOk, OnOk};
-ghost use Rattle.std.specs.Fmt.{decimal};
 ghost use Rattle.hex_board.specs.Positions.{empty_board};
 ghost use Rattle.hex_game.specs.Games.{AreLegal};
-ghost use Rattle.hex_cells.specs.Colours.{colour_word};
 ghost use Rattle.match_ref.specs.MatchTexts.{game_line, game_text, games_text};
 ghost use Rattle.match_ref.specs.MatchTexts.{has_won, match_text, side_word, winner_words, wins_of};
 ghost use Rattle.match_ref.specs.Matches.{is_side_a};
@@ -14,29 +12,13 @@ use super::playing::is_side_a;
 use super::records::push_record;
 use super::refusals::Memory;
 use super::words::MatchWords;
-use hex_cells::Colour;
+use hex_cells::{Colour, push_number};
 use std::alloc::{AllocError, Global};
-
-// Writes a number in decimal.
-fn push_number(alloc: Global, text: &mut Vec<u8>, number: usize) -> Result<(), AllocError>
-    ensures { OnOk result (text.new.items ≡ text.old.items ++ decimal number) }
-{
-    text.extend_from_slice(number.to_string(alloc)?.as_bytes())
-}
 
 fn side_word(is_a: bool) -> &'static [u8]
     ensures { result.now ≡ side_word is_a }
 {
     if is_a { b"a" } else { b"b" }
-}
-
-fn colour_name(colour: Colour) -> &'static [u8]
-    ensures { result.now ≡ colour_word colour }
-{
-    match colour {
-        Colour::Black => b"black",
-        Colour::White => b"white",
-    }
 }
 
 // Writes the side and the colour that won, with a space at each end.
@@ -49,7 +31,7 @@ fn push_winner(text: &mut Vec<u8>, number: usize, winner: Option<Colour>) -> Res
     text.push(b' ')?;
     text.extend_from_slice(side_word(is_side_a(number, player)))?;
     text.push(b' ')?;
-    text.extend_from_slice(colour_name(player))?;
+    text.extend_from_slice(player.word())?;
     text.push(b' ')?;
     Ok(())
 }
@@ -60,9 +42,9 @@ pub fn game_line(alloc: Global, number: usize, game: &Played) -> Result<Vec<u8>,
     ensures { IfOk result (λ line. line.items ≡ game_line number game.now) }
 {
     let mut line = Vec::new(alloc);
-    push_number(alloc, &mut line, number)?;
+    push_number(alloc, &mut line, number as u64)?;
     push_winner(&mut line, number, game.winner)?;
-    push_number(alloc, &mut line, game.steps.as_slice().len())?;
+    push_number(alloc, &mut line, game.steps.as_slice().len() as u64)?;
     line.push(b'\n')?;
     Ok(line)
 }
@@ -146,9 +128,9 @@ pub fn match_text(alloc: Global, asked: &MatchWords, games: &[Played]) -> Result
     let mut text = Vec::new(alloc);
     push_games(alloc, &mut text, asked, games)?;
     text.extend_from_slice(b"a ")?;
-    push_number(alloc, &mut text, wins_of(true, games))?;
+    push_number(alloc, &mut text, wins_of(true, games) as u64)?;
     text.extend_from_slice(b" b ")?;
-    push_number(alloc, &mut text, wins_of(false, games))?;
+    push_number(alloc, &mut text, wins_of(false, games) as u64)?;
     text.extend_from_slice(b"\n")?;
     Ok(text)
 }

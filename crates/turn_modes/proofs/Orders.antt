@@ -13,31 +13,16 @@ use Rattle.std.proofs.lemmas.List.Sums.{prefix_len_is}
 use Rattle.hex_cells.specs.Colours.{other_of}
 use Rattle.hex_cells.specs.Sets.{has}
 use Rattle.hex_cells.specs.declared.colours.Colour.{Colour}
-use Rattle.hex_cells.specs.declared.colours.Colour.TheVariants.{Black, White}
+use Rattle.hex_cells.specs.declared.colours.Colour.TheVariants.{Black}
 use Rattle.hex_cells.proofs.Bits.{has_none}
-use Rattle.hex_board.specs.Joined.{is_joined, winner_of}
+use Rattle.hex_board.specs.Joined.{winner_of}
 use Rattle.hex_board.specs.Positions.{Position, empty_board, is_empty_at, placed}
-use Rattle.hex_board.proofs.Search.{joined_out, starts_in}
 use Rattle.play_out.specs.Fills.{ListsEmpties, empties_of, filled_by, order_of}
 use Rattle.play_out.specs.Streams.{place_of, shuffled, state_for, stream_at, words_of}
 use Rattle.turn_modes.specs.Positions.{board_on, is_open, mover_after, shuffled_cells, placed_count}
 use Rattle.turn_modes.proofs.Placing.{mover_from, from_black, one_stone_more, next_is_empty}
 
 -- ---- the board without stones
-
-nobody_joined : (n : ℕ) (player : Colour) (b : Bool) → b ≡ is_joined n player 0 → b ≡ false
-nobody_joined n player false e = refl
-nobody_joined n player true e =
-    let path = joined_out n player 0 (sym e) in
-    let stone : has 0 path.0 ≡ true = starts_in n 0 path.0 path.1 path.2 in
-    let none = has_none path.0 in
-    absurd (cc)
-
--- nobody is joined there
-pub bare_open : (n : ℕ) → winner_of (empty_board n) ≡ None
-bare_open n = ap (λ b. cond b (Some Black) (cond (is_joined n White 0) (Some White) None))
-    (nobody_joined n Black _ refl)
-    ∙ ap (λ b. cond b (Some White) None) (nobody_joined n White _ refl)
 
 -- each cell is empty
 bare_empty : (n k : ℕ) → k < n * n → is_empty_at (empty_board n) k ≡ true

@@ -7,7 +7,7 @@ ghost use Rattle.play_out.specs.Fills.{ListsEmpties};
 ghost use Rattle.turn_modes.specs.Positions.{IsBenchPosition, IsPlacedOn, is_open};
 
 use hex_board::Board;
-use hex_cells::{Cell, CellSet, Colour, Size};
+use hex_cells::{Cell, Colour, Size};
 use play_out::{MOST_EMPTIES, write_order};
 
 /// A position of mode bench: the board, the player to move there, and how many stones were placed.
@@ -19,14 +19,6 @@ pub struct BenchPosition {
     pub colour: Colour,
     /// How many stones were placed: at most a third of the cells.
     pub stones: u32,
-}
-
-/// The board of this size without stones.
-pub fn bare_board(size: Size) -> Board
-    ensures value { result ≡ empty_board size }
-    ensures nobody { winner_of result ≡ None }
-{
-    Board::of(size, CellSet::none(), CellSet::none())
 }
 
 // Whether nobody is joined on the board.
@@ -48,7 +40,7 @@ fn place_stones(size: Size, cells: &[Cell]) -> BenchPosition
     ensures room { (k : ℕ) × (is_empty_at result.board k ≡ true) }
 {
     let most = size.cells() / 3;
-    let mut board = bare_board(size);
+    let mut board = Board::empty(size);
     let mut colour = Colour::Black;
     let mut stones = 0;
     'stones: while stones < most {
@@ -79,6 +71,6 @@ pub fn bench_position(size: Size, seed: u64) -> BenchPosition
     ensures room { (k : ℕ) × (is_empty_at result.board k ≡ true) }
 {
     let mut cells = [Cell::numbered(0); MOST_EMPTIES];
-    let count = write_order(&bare_board(size), seed, 0, &mut cells);
+    let count = write_order(&Board::empty(size), seed, 0, &mut cells);
     place_stones(size, &cells[..count])
 }

@@ -13,7 +13,7 @@ ghost use Rattle.hex_plan.specs.Plans.{IsPlanned, IsSearchAmong};
 ghost use Rattle.turn_modes.specs.OneTurn.{FollowsSchedule, IsFirstTurn, MakesFirstTurn};
 
 use super::options::ModeOptions;
-use super::positions::{BenchPosition, bare_board};
+use super::positions::BenchPosition;
 use super::schedules::schedule;
 use hex_board::Board;
 use hex_cells::Colour;
@@ -82,12 +82,10 @@ pub fn simulated_turn(alloc: Global, options: &ModeOptions) -> Result<Turn, Memo
     ensures scheduled { IfOk result (FollowsSchedule options.now) }
 {
     let knobs = &options.knobs;
-    let board = bare_board(options.size);
+    let board = Board::empty(options.size);
     let prepared = prepare(alloc, &board, Colour::Black, knobs)?;
     let list = schedule(alloc, knobs.workers, knobs.seed, options.steps)?;
-    let Ok(closed) = follow(alloc, &prepared.shape, &list) else {
-        return Err(Memory);
-    };
+    let closed = follow(alloc, &prepared.shape, &list)?;
     Ok(decide(prepared.planned, closed))
 }
 

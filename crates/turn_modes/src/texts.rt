@@ -8,7 +8,7 @@ ghost use Rattle.turn_modes.specs.Rows.{visits_of};
 ghost use Rattle.turn_modes.specs.Telling.{TellsBench, TellsSim};
 
 use super::records::count_records;
-use hex_cells::{Cell, Size, VERTEX_LEN, write_vertex};
+use hex_cells::{Cell, Size, VERTEX_LEN, push_number, write_vertex};
 use hex_plan::{Turn, turn_texts};
 use std::alloc::{AllocError, Global};
 use tree_words::{Closed, Knobs, Row, report};
@@ -35,7 +35,7 @@ fn push_line(
     ensures { OnOk result (text.new.items ≡ text.old.items ++ number_line word.now number) }
 {
     text.extend_from_slice(word)?;
-    text.extend_from_slice(number.to_string(alloc)?.as_bytes())?;
+    push_number(alloc, text, number as u64)?;
     text.push(b'\n')?;
     Ok(())
 }

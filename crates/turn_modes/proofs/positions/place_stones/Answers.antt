@@ -11,11 +11,11 @@ use Rattle.turn_modes.proofs.positions.place_stones.Goals.{then-stones-test+then
 pub stones-init : goal.stones-init
 stones-init c = record {
   within = omega arith;
-  size = ap (λ p. p.size) c.bare_board-board.ensures.value;
-  board = first_board c.args.size c.args.cells.now c.bare_board-board.result
-      c.bare_board-board.ensures.value;
+  size = ap (λ p. p.size) c.empty-board.ensures.value;
+  board = first_board c.args.size c.args.cells.now c.empty-board.result
+      c.empty-board.ensures.value;
   colour = refl;
-  nobody = c.bare_board-board.ensures.nobody;
+  nobody = c.empty-board.ensures.nobody;
   open_before = λ m l. absurd (omega arith);
 }
 

@@ -11,29 +11,29 @@ use Rattle.turn_modes.proofs.searches.simulated_turn.Goals as goal
 pub returns-clause-turn : goal.returns-clause-turn
 returns-clause-turn c =
     let knobs = c.args.options.now.knobs in
-    let board = c.bare_board-board.result in
+    let board = c.empty-board.result in
     let s = c.in_ok-prepared.prepared.shape in
-    let same : c.in-Ok.closed.shape ≡ s = c.in-Ok.ensures.shape in
-    subst (λ p. IsFirstTurn knobs p Black c.decide.result) c.bare_board-board.ensures.value
-    (c.decide.ensures.first knobs board Black c.bare_board-board.ensures.nobody
+    let same : c.in_ok-closed.closed.shape ≡ s = c.in_ok-closed.ensures.shape in
+    subst (λ p. IsFirstTurn knobs p Black c.decide.result) c.empty-board.ensures.value
+    (c.decide.ensures.first knobs board Black c.empty-board.ensures.nobody
     c.in_ok-prepared.ensures.planned
-    (shape_of_tree knobs board Black s c.in-Ok.closed same c.in_ok-prepared.ensures.shape)
-    (sequential_tree knobs board Black s c.in-Ok.closed same c.in_ok-prepared.ensures.shape
-    c.in-Ok.ensures.one))
+    (shape_of_tree knobs board Black s c.in_ok-closed.closed same c.in_ok-prepared.ensures.shape)
+    (sequential_tree knobs board Black s c.in_ok-closed.closed same c.in_ok-prepared.ensures.shape
+    c.in_ok-closed.ensures.one))
 
 pub returns-clause-scheduled : goal.returns-clause-scheduled
 returns-clause-scheduled c =
     let knobs = c.args.options.now.knobs in
     let list : c.deref.result.now ≡ schedule_of knobs.workers knobs.seed c.args.options.now.steps
     = c.deref.ensures.value ∙ c.in_ok-list.ensures.value in
-    let tree = c.in-Ok.closed in (
+    let tree = c.in_ok-closed.closed in (
       tree,
       c.decide.ensures.closed,
       subst (λ (z : Setting). EndsSchedule z
           (schedule_of knobs.workers knobs.seed c.args.options.now.steps) tree.words)
-          (sym c.in-Ok.ensures.shape)
+          (sym c.in_ok-closed.ensures.shape)
           (subst (λ (xs : List ℕ). EndsSchedule c.in_ok-prepared.prepared.shape xs tree.words) list
-          c.in-Ok.ensures.schedule),
+          c.in_ok-closed.ensures.schedule),
     )
 
 pub follow-requires : goal.follow-requires
