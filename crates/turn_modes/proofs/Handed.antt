@@ -1,11 +1,8 @@
 -- A turn that was handed over with its text.
-use Rattle.std.proofs.Common.{◌≡◌, ℕ, List, Option, Some, None, Ok, Err, Result, refl, sym, subst}
-use Rattle.std.proofs.Common.{arith}
-use Rattle.std.specs.Prelude.{IsErrAnd}
-use Rattle.hex_io.specs.Causes.{CountsFault}
+use Rattle.std.proofs.Common.{◌≡◌, ℕ, List, Option, Ok, Err, Result, refl, sym, subst}
 use Rattle.hex_io.specs.Told.{Told}
 use Rattle.hex_plan.specs.Turns.{TurnData}
-use Rattle.hex_devices.specs.Devices.{CountsStop, DevicesState, LinkAndArchive, Outcome, stop_of}
+use Rattle.hex_devices.specs.Devices.{LinkAndArchive, Outcome}
 use Rattle.hex_devices.specs.Handing.{HandsOver}
 use Rattle.hex_devices.specs.declared.stops.Stop.{Stop}
 use Rattle.hex_devices.specs.declared.stops.Stop.TheVariants.{ReadFault, WriteFault, Memory}
@@ -42,23 +39,3 @@ hands_less Says Less old new (Err WriteFault) less h = (h.0, h.1, less h.0 h.1 h
 hands_less Says Less old new (Err Memory) less h = h
 hands_less Says Less old new (Err TooLong) less h = absurd h
 hands_less Says Less old new (Err ArchiveFault) less h = h
-
-count_same : (n : ℕ) (t : Stop) (stop : Option Stop) → (stop ≡ Some t → ⊥)
-    → CountsFault n n (stop ≡ Some t)
-count_same n t stop none
-    = record { later = omega arith; rose = λ e. absurd (none e); kept = λ e. refl }
-
-counts_same : (d : DevicesState) (stop : Option Stop) → (stop ≡ Some ReadFault → ⊥)
-    → (stop ≡ Some WriteFault → ⊥) → (stop ≡ Some ArchiveFault → ⊥) → CountsStop d d stop
-counts_same d stop read write archive = record {
-  reads = count_same d.read_faults ReadFault stop read;
-  writes = count_same d.write_faults WriteFault stop write;
-  archives = count_same d.archive_faults ArchiveFault stop archive;
-  names = refl;
-}
-
--- if memory ran out no fault is counted
-pub memory_counts : (d : DevicesState) (result : Result (Unit {0}) Stop)
-    → IsErrAnd result (λ stop. stop ≡ Memory) → CountsStop d d (stop_of result)
-memory_counts d (Ok done) e = counts_same d None (λ q. cc) (λ q. cc) (λ q. cc)
-memory_counts d (Err stop) e = counts_same d (Some stop) (λ q. cc) (λ q. cc) (λ q. cc)
