@@ -48,7 +48,7 @@ fn edge_cert(alloc: Global, report: &Report) -> Option<Cert>
 // text of the certificate is this one, and the checker accepts it with this carrier.
 fn certify(rt: &impl Abort, alloc: Global, size: u32, expected: &[u8], carrier: CellSet) {
     let size = Size::of(size).expect(rt, "a size");
-    let board = Board::of(size, CellSet::none(), CellSet::none());
+    let board = Board::empty(size);
     let Ok(report) = connect(alloc, &board, Colour::Black) else {
         panic!(rt; "there is memory");
     };

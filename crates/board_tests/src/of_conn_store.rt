@@ -2,7 +2,7 @@
 
 use conn_store::{Held, Kind, Put, Store};
 use hex_board::Board;
-use hex_cells::{Cell, CellSet, Colour, Size};
+use hex_cells::{Cell, Colour, Size};
 use std::alloc::Global;
 use std::process::Abort;
 use std::rt::HostRuntime;
@@ -12,7 +12,7 @@ use std::rt::HostRuntime;
 fn store_of(rt: &impl Abort, alloc: Global, size: u32, stones: u32) -> Store {
     let size = Size::of(size).expect(rt, "a size");
     assert!(rt; stones == 0 || 1 < size.get() && stones <= size.get());
-    let mut board = Board::of(size, CellSet::none(), CellSet::none());
+    let mut board = Board::empty(size);
     for column in 0..stones {
         let cell = Cell::at(size, column, 1);
         match board.at(cell) {

@@ -3,7 +3,7 @@
 ghost use Rattle.std.specs.Prelude.{◌≡◌, ◌*◌, ◌<◌, ◌≤◌};
 
 use hex_board::{Board, Elements};
-use hex_cells::{Cell, CellSet, Colour, Size};
+use hex_cells::{Cell, Colour, Size};
 use std::process::Abort;
 use std::rt::HostRuntime;
 use std::test::Fail;
@@ -30,18 +30,12 @@ fn put(rt: &impl Abort, board: &mut Board, colour: Colour, column: u32, row: u32
     }
 }
 
-fn empty_board(size: Size) -> Board
-    ensures { result.size ≡ size }
-{
-    Board::of(size, CellSet::none(), CellSet::none())
-}
-
 // The board whose cells are the digits of `code` in this base, the first cell lowest: 0 Black, 1
 // White, 2 empty.
 fn decoded(rt: &impl Abort, code: u32, base: u32, size: Size) -> Board
     requires { 2 ≤ base }
 {
-    let mut board = empty_board(size);
+    let mut board = Board::empty(size);
     let mut rest = code;
     for row in 0..size.get() {
         for column in 0..size.get() {
@@ -158,7 +152,7 @@ fn a_full_board_has_one_winner(rt: HostRuntime) -> Result<(), Fail> {
 #[test]
 fn elements_of_a_row(rt: HostRuntime) -> Result<(), Fail> {
     let size = Size::of(11).ok_or("a size")?;
-    let mut board = empty_board(size);
+    let mut board = Board::empty(size);
     // The stones a2 to g2.
     for column in 0..7 {
         put(&rt, &mut board, Colour::Black, column, 1);
@@ -284,7 +278,7 @@ const CASES: [Case; 4] = [
 fn elements_on_size_three(rt: HostRuntime) -> Result<(), Fail> {
     let size = Size::of(3).ok_or("a size")?;
     for case in &CASES {
-        let mut board = empty_board(size);
+        let mut board = Board::empty(size);
         for (colour, column, row) in case.stones {
             put(&rt, &mut board, *colour, *column, *row);
         }

@@ -2,7 +2,7 @@
 
 use hex_cells::{
     Cell, CellSet, Colour, DECIMAL_LEN, MOST_CELLS, Size, VERTEX_LEN, edge, neighbours,
-    read_vertex, write_decimal, write_vertex,
+    push_number, read_vertex, write_decimal, write_vertex,
 };
 use std::rt::HostRuntime;
 use std::test::Fail;
@@ -55,6 +55,26 @@ fn writes_decimals(rt: HostRuntime) -> Result<(), Fail> {
         assert!(rt; number < 100);
         let len = write_decimal(number, &mut out);
         assert_eq!(rt; &out[..len], want);
+    }
+    Ok(())
+}
+
+#[test]
+fn pushes_numbers(rt: HostRuntime) -> Result<(), Fail> {
+    let mut text = b"n ".to_vec(rt.alloc())?;
+    push_number(rt.alloc(), &mut text, 0)?;
+    text.push(b' ')?;
+    push_number(rt.alloc(), &mut text, u64::MAX)?;
+    let want: &[u8] = b"n 0 18446744073709551615";
+    assert_eq!(rt; text.as_slice(), want);
+    Ok(())
+}
+
+#[test]
+fn names_colours(rt: HostRuntime) -> Result<(), Fail> {
+    let table: [(Colour, &[u8]); 2] = [(Colour::Black, b"black"), (Colour::White, b"white")];
+    for (colour, want) in table {
+        assert_eq!(rt; colour.word(), want);
     }
     Ok(())
 }

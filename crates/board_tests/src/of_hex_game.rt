@@ -3,7 +3,7 @@
 ghost use Rattle.std.specs.Prelude.{◌*◌, ◌<◌};
 
 use hex_board::Board;
-use hex_cells::{Cell, CellSet, Colour, Size};
+use hex_cells::{Cell, Colour, Size};
 use hex_game::{Game, Move, NoMove, PlayError, Step};
 use std::process::Abort;
 use std::test::Fail;
@@ -24,7 +24,7 @@ fn stone_at(
 #[test]
 fn a_short_game(rt: HostRuntime) -> Result<(), Fail> {
     let size = Size::of(3).ok_or("a size")?;
-    let bare = Board::of(size, CellSet::none(), CellSet::none());
+    let bare = Board::empty(size);
     let mut game = Game::make(rt.alloc(), &bare)?;
     assert_eq!(rt; game.undo(), Err(NoMove));
     assert_eq!(rt;
@@ -43,7 +43,7 @@ fn a_short_game(rt: HostRuntime) -> Result<(), Fail> {
 #[test]
 fn a_swap_is_taken(rt: HostRuntime) -> Result<(), Fail> {
     let size = Size::of(3).ok_or("a size")?;
-    let bare = Board::of(size, CellSet::none(), CellSet::none());
+    let bare = Board::empty(size);
     let mut game = Game::make(rt.alloc(), &bare)?;
     // Black's b3 becomes White's c2, which is its mirror image.
     assert_eq!(rt; stone_at(&rt, &mut game, Colour::Black, 1, 2), Ok(()));
@@ -75,7 +75,7 @@ fn a_swap_is_taken(rt: HostRuntime) -> Result<(), Fail> {
 #[test]
 fn a_game_that_is_over(rt: HostRuntime) -> Result<(), Fail> {
     let size = Size::of(1).ok_or("a size")?;
-    let bare = Board::of(size, CellSet::none(), CellSet::none());
+    let bare = Board::empty(size);
     let mut game = Game::make(rt.alloc(), &bare)?;
     assert_eq!(rt; stone_at(&rt, &mut game, Colour::Black, 0, 0), Ok(()));
     // `Over` comes before the other causes.

@@ -135,7 +135,7 @@ fn wins(board: &Board, player: Colour, mover: Colour, fuel: u32) -> bool {
 // The board whose cells are the digits of `code` in base 3, the first cell lowest: 0 empty, 1
 // Black, 2 White.
 pub(crate) fn board_of(size: Size, code: u32) -> Board {
-    let mut board = Board::of(size, CellSet::none(), CellSet::none());
+    let mut board = Board::empty(size);
     let mut rest = code;
     for number in 0..board.size().cells() {
         let colour = match rest % 3 {

@@ -132,7 +132,7 @@ fn a_line_too_many(rt: HostRuntime) -> Result<(), Fail> {
 #[test]
 fn lines_after_others(rt: HostRuntime) -> Result<(), Fail> {
     let size = Size::of(1).ok_or("a size")?;
-    let board = Board::of(size, CellSet::none(), CellSet::none());
+    let board = Board::empty(size);
     let Ok(report) = connect(rt.alloc(), &board, Colour::Black) else {
         return Err("memory".into());
     };

@@ -15,7 +15,7 @@ use super::answers::{Answer, EngineError, Fail, Memory};
 use super::commands::Command;
 use super::options::Options;
 use hex_board::Board;
-use hex_cells::{CellSet, Size};
+use hex_cells::Size;
 use hex_game::Game;
 use hex_io::Shelf;
 use hex_plan::{Archive, TurnTexts};
@@ -57,7 +57,7 @@ impl Engine {
         requires { AreInRange options.now.knobs }
         ensures { IfOk result (λ engine. engine ≡ opening options.now size) }
     {
-        let board = Board::of(size, CellSet::none(), CellSet::none());
+        let board = Board::empty(size);
         match Game::make(alloc, &board) {
             Ok(game) => Ok(Engine {
                 alloc,

@@ -16,7 +16,6 @@ use super::answers::{Answer, Fail, Memory};
 use super::commands::{Command, command_list};
 use super::picture::board_text;
 use hex_board::Board;
-use hex_cells::Colour;
 use hex_game::Game;
 use htp_line::Bytes;
 use sgf_game::game_text;
@@ -55,8 +54,7 @@ pub fn name_of_winner(board: &Board) -> &'static [u8]
 {
     match board.winner() {
         None => b"none",
-        Some(Colour::Black) => b"black",
-        Some(Colour::White) => b"white",
+        Some(colour) => colour.word(),
     }
 }
 
