@@ -12,7 +12,8 @@
 --    of a win's tree), Trying (the loop over the cells), TryingEnds and Found.
 -- 5. Its end: specs/PlainAnswer.antt, src/plain_answer.rt, proofs/LedgersTell (clear lines with a
 --    claim are an accepted certificate, by win_cert's Accepting).
--- 6. With connections: proofs/RootEntries (a semi entry at the root); then hex_found's `find`, whose
+-- 6. With connections: proofs/RootEntries (a semi entry at the root); then hex_found's `find`,
+-- whose
 --    contract is what the clauses ask of a winner, with no proof here; and then `solve`.
 
 -- Steps of this crate's own proofs.

@@ -27,16 +27,25 @@ abbrev pub AcceptedWins : Type 0
 AcceptedWins = (cert : Cert) → HasBoard cert → Accepted cert → WinsAsClaimed cert
 
 -- the certificate of a semi entry, in the latest version, shows that the mover wins
-pub certified_win : (e : PlayerBoard) (d : StoreData) (a : Entry) (cert new : Cert) → d.elements ≡ e → a.kind ≡ Semi → CertifiesEntry d a cert → new ≡ raised cert → IsWritable new → HaveSameVerdict cert new
-    → IsPosition e.board.size e.board.black e.board.white → AcceptedWins → IsCertifiedWinner e.board e.player e.player new
+pub certified_win : (e : PlayerBoard) (d : StoreData) (a : Entry) (cert new : Cert) → d.elements ≡ e
+    → a.kind ≡ Semi → CertifiesEntry d a cert → new ≡ raised cert → IsWritable new
+    → HaveSameVerdict cert new
+    → IsPosition e.board.size e.board.black e.board.white → AcceptedWins
+    → IsCertifiedWinner e.board e.player e.player new
 certified_win e d a cert new is k c r w same on law =
     let v : IsVerdict new (Yes a.kind a.carrier) = (same (Yes a.kind a.carrier)).0 c.verdict in
-    let board : new.board ≡ e.board = ap (λ (x : Cert). x.board) r ∙ (c.board ∙ ap (λ (x : PlayerBoard). x.board) is) in
-    let player : new.player ≡ e.player = ap (λ (x : Cert). x.player) r ∙ (c.player ∙ ap (λ (x : PlayerBoard). x.player) is) in
+    let board : new.board ≡ e.board = ap (λ (x : Cert). x.board) r
+    ∙ (c.board ∙ ap (λ (x : PlayerBoard). x.board) is) in
+    let player : new.player ≡ e.player = ap (λ (x : Cert). x.player) r
+    ∙ (c.player ∙ ap (λ (x : PlayerBoard). x.player) is) in
     let claims : new.claim ≡ Semi = sym v.1 ∙ k in
-    let there : HasBoard new = subst (λ (x : Position). IsPosition x.size x.black x.white) (sym board) on in
-    let wins : Wins new.player new.board new.player = subst (λ (x : Kind). Wins new.player new.board (first_mover x new.player)) claims (law new there v.0) in
+    let there : HasBoard new = subst (λ (x : Position). IsPosition x.size x.black x.white)
+    (sym board) on in
+    let wins : Wins new.player new.board new.player
+    = subst (λ (x : Kind). Wins new.player new.board (first_mover x new.player)) claims
+    (law new there v.0) in
     record {
       certified = record { latest = ap (λ (x : Cert). x.version) r; writable = w; accepted = v.0; board = board; player = player; claims = claims ∙ semi_for e.player };
-      wins = subst (λ (x : Colour). Wins x e.board x) player (subst (λ (x : Position). Wins new.player x new.player) board wins);
+      wins = subst (λ (x : Colour). Wins x e.board x) player
+          (subst (λ (x : Position). Wins new.player x new.player) board wins);
     }

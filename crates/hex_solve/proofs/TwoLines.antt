@@ -1,5 +1,6 @@
 -- A ledger with two lines more.
-use Rattle.std.proofs.Common.{◌≡◌, ◌+◌, ◌<◌, [], ◌∷◌, None, length, sym, ◌∙◌, ap, subst, inl, inr, arith}
+use Rattle.std.proofs.Common.{◌≡◌, ◌+◌, ◌<◌, [], ◌∷◌, None, length, sym, ◌∙◌, ap, subst, inl, inr}
+use Rattle.std.proofs.Common.{arith}
 use Rattle.std.proofs.lemmas.Bool.{cases_lt}
 use Rattle.hex_board.specs.Elements.{PlayerBoard}
 use Rattle.hex_board.specs.Positions.{Position}
@@ -19,13 +20,16 @@ with_two d line next = with_one_line (with_one_line d line) next
 -- lines that show something of what is read so far
 abbrev pub TwoShow : LedgerData → Position → Kind → Line → Line → Type 0
 TwoShow d p kind line next = AreClear (read_of d) (line ∷ next ∷ [])
-    × Shows (after_lines (read_of d) (line ∷ next ∷ [])) p kind (scope_of d.base p) (length (read_of d).earlier + 1)
+    × Shows (after_lines (read_of d) (line ∷ next ∷ [])) p kind (scope_of d.base p)
+    (length (read_of d).earlier + 1)
 
-pub second_follows : (d : LedgerData) (line next : Line) → AreClear (read_of d) (line ∷ next ∷ []) → length (with_one_line d line).lines < MOST_LINES
+pub second_follows : (d : LedgerData) (line next : Line) → AreClear (read_of d) (line ∷ next ∷ [])
+    → length (with_one_line d line).lines < MOST_LINES
     → reason_against (read_of (with_one_line d line)) (Derivation next) ≡ None
 second_follows d line next h l = elim (cases_lt (length d.lines) MOST_LINES) [
   | inl m ↦ subst (λ c. reason_against c (Derivation next) ≡ None) (sym (read_next d line m)) h.1.0
-  | inr m ↦ let e : length (with_one_line d line).lines ≡ length d.lines = ap (λ (e : LedgerData). length e.lines) (no_room d line m) in absurd (omega arith)
+  | inr m ↦ let e : length (with_one_line d line).lines ≡ length d.lines
+      = ap (λ (e : LedgerData). length e.lines) (no_room d line m) in absurd (omega arith)
 ]
 
 pub base_same : (d : LedgerData) (line : Line) → (with_one_line d line).base ≡ d.base
@@ -34,12 +38,15 @@ base_same d line = elim (cases_lt (length d.lines) MOST_LINES) [
   | inr l ↦ ap (λ (e : LedgerData). e.base) (no_room d line l)
 ]
 
-pub two_shown : (d : LedgerData) (p : Position) (kind : Kind) (line next : Line) → (d.lost ≡ 0 → TwoShow d p kind line next) → ShowsWin (with_two d line next) p kind (length d.lines + 1)
+pub two_shown : (d : LedgerData) (p : Position) (kind : Kind) (line next : Line)
+    → (d.lost ≡ 0 → TwoShow d p kind line next)
+    → ShowsWin (with_two d line next) p kind (length d.lines + 1)
 two_shown d p kind line next f h =
     let e = with_one_line d line in
     let s = had_room e next h in
     let t = had_room d line s.1 in
-    let same : read_of (with_two d line next) ≡ after_lines (read_of d) (line ∷ next ∷ []) = read_next e next s.0 ∙ ap (λ c. context_after c next) (read_next d line t.0) in
+    let same : read_of (with_two d line next) ≡ after_lines (read_of d) (line ∷ next ∷ [])
+    = read_next e next s.0 ∙ ap (λ c. context_after c next) (read_next d line t.0) in
     let shown = (f t.1).1 in
     subst (λ (b : PlayerBoard). Shows (read_of (with_two d line next)) p kind (scope_of b p) (length d.lines + 1)) (sym (base_same e next ∙ base_same d line))
     (subst (λ i. Shows (read_of (with_two d line next)) p kind (scope_of d.base p) (i + 1)) (number_next d)

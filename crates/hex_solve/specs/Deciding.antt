@@ -13,8 +13,8 @@ use Rattle.hex_board.specs.Wins.{empty_count}
 abbrev pub is_for : Colour → Option Colour → Bool
 is_for c o = option_map_or (is_same c) o false
 
--- on a board where nobody is joined: the player to place where some stone of his leads to a win of
--- his, else the other where each leads to a win of the other's; nobody, where no cell is empty
+-- on a board on which nobody is joined: the player to place if some stone of his leads to a win of
+-- his, else the other if each leads to a win of the other's; nobody if no cell is empty
 abbrev pub decided : (Position → Colour → Option Colour) → Position → Colour → Option Colour
 decided next p mover =
     if list_any (λ k. is_empty_at p k && is_for mover (next (placed p mover k) (other_of mover)))
@@ -24,7 +24,7 @@ decided next p mover =
     || is_for (other_of mover) (next (placed p mover k) (other_of mover))) (cells_of p.size)
     then Some (other_of mover) else None)
 
--- who wins the position where both play for it, `mover` placing next, told with `fuel` stones more
+-- who wins the position if both play for it, `mover` placing next, told with `fuel` stones more
 abbrev pub first_in : ℕ → Position → Colour → Option Colour
 first_in zero p mover = winner_of p
 first_in (suc fuel) p mover =
@@ -55,6 +55,21 @@ need_in (suc fuel) p mover =
 abbrev pub need : Position → Colour → ℕ
 need p mover = need_in (empty_count p) p mover
 
+-- how many lines a certificate has by which such a search shows that player c wins: two, and those
+-- of each position that it enters after a stone; none if he doesn't win
+abbrev pub lines_in : Colour → ℕ → Position → Colour → ℕ
+lines_in c zero p mover = if is_for c (winner_of p) then 2 else 0
+lines_in c (suc fuel) p mover =
+    if is_for c (first_in (suc fuel) p mover) then 2 + (if is_some (winner_of p) then 0
+    else sum_up_to (is_empty_at p)
+    (λ k. is_for mover (first_in fuel (placed p mover k) (other_of mover)))
+    (λ k. lines_in c fuel (placed p mover k) (other_of mover))
+    (cells_of p.size))
+    else 0
+
+abbrev pub lines_of : Colour → Position → Colour → ℕ
+lines_of c p mover = lines_in c (empty_count p) p mover
+
 -- m · (m - 1) · .. , i factors
 abbrev pub falling : ℕ → ℕ → ℕ
 falling m zero = 1
@@ -66,7 +81,7 @@ abbrev pub falls : ℕ → ℕ → ℕ
 falls m zero = falling m 0
 falls m (suc i) = falls m i + falling m (suc i)
 
--- the most positions that a search enters where m cells are empty: each list of different cells is
+-- the most positions that a search enters if m cells are empty: each list of different cells is
 -- one
 abbrev pub bound : ℕ → ℕ
 bound m = falls m m

@@ -26,7 +26,7 @@ pub record LedgerData : Type 0 where
 abbrev pub read_of : LedgerData → Context
 read_of d = after_lines (first_context d.base.board d.base.player) d.lines
 
--- the lines are clear and can be written, they are not too many, and where some had no room all
+-- the lines are clear and can be written, they are not too many, and if some had no room all
 -- the room is taken
 pub record IsLedger (d : LedgerData) : Type 0 where
   pub clear : AreClear (first_context d.base.board d.base.player) d.lines
@@ -58,7 +58,11 @@ pub record GrowsBy (most : ℕ) (old new : LedgerData) : Type 0 where
   pub lost : old.lost ≤ new.lost
   pub count : count_of new ≤ count_of old + most
 
--- where there was room for all lines, line i shows that the player wins p
+-- so many lines came to old as new has more, unless those that had no room are too many to count
+abbrev pub CountsBy : ℕ → LedgerData → LedgerData → Type 0
+CountsBy more old new = new.lost < 2 ^ 64 - 1 → count_of new ≡ count_of old + more
+
+-- if there was room for all lines, line i shows that the player wins p
 abbrev pub ShowsWin : LedgerData → Position → Kind → ℕ → Type 0
 ShowsWin d p kind i = d.lost ≡ 0 → Shows (read_of d) p kind (scope_of d.base p) i
 

@@ -8,8 +8,8 @@ use Rattle.hex_board.specs.Positions.{Position, stones_of}
 use Rattle.hex_board.specs.Wins.{empty_count}
 use Rattle.conn_store.specs.declared.entries.Kind.{Kind}
 use Rattle.conn_store.specs.declared.entries.Kind.TheVariants.{Full, Semi}
-use Rattle.hex_solve.specs.Deciding.{first, need}
-use Rattle.hex_solve.specs.Ledgers.{GrowsBy, LedgerData, ShowsWin, count_of}
+use Rattle.hex_solve.specs.Deciding.{first, lines_of, need}
+use Rattle.hex_solve.specs.Ledgers.{CountsBy, GrowsBy, LedgerData, ShowsWin, count_of}
 use Rattle.win_cert.specs.Showing.{Keeps}
 use Rattle.hex_solve.specs.Solved.{IsOpenBoard}
 use Rattle.hex_solve.specs.declared.plain_search.Found.{Found}
@@ -33,19 +33,21 @@ tree_lines kind zero = 2
 tree_lines Semi (suc m) = 2 + tree_lines Full m
 tree_lines Full (suc m) = 2 + suc m * tree_lines Semi m
 
--- the winner's ledger grew by at most two lines for each position that was entered, and by no more
--- than a tree has, and has a line that shows that he wins p; the other ledger is as before
+-- the winner's ledger grew by the lines that show that he wins p, at most two for each position
+-- that was entered, and no more than a tree has; the other ledger is as before
 abbrev pub IsShownBy : Bool → Position → Colour → ℕ → LedgerData × LedgerData
     → LedgerData × LedgerData → Type 0
 IsShownBy true p mover line old new = GrowsBy (2 * need p mover) old.0 new.0
     × ShowsWin new.0 p Semi line × (new.1 ≡ old.1) × (first p mover ≡ Some mover)
     × (count_of new.0 ≤ count_of old.0 + tree_lines Semi (empty_count p))
+    × CountsBy (lines_of mover p mover) old.0 new.0
 IsShownBy false p mover line old new = GrowsBy (2 * need p mover) old.1 new.1
     × ShowsWin new.1 p Full line × (new.0 ≡ old.0) × (first p mover ≡ Some (other_of mover))
     × (count_of new.1 ≤ count_of old.1 + tree_lines Full (empty_count p))
+    × CountsBy (lines_of (other_of mover) p mover) old.1 new.1
 
 -- why a search stopped that may enter `left` positions: they are fewer than it needs, or a board is
--- open, or for want of memory
+-- open, or memory ran out
 abbrev pub IsStop : Position → Colour → ℕ → Stop → Type 0
 IsStop p mover left Spent = left < need p mover
 IsStop p mover left (Open full) = IsOpenBoard p full

@@ -1,6 +1,6 @@
 -- What the solver tells of a position p with `mover` to place next: a clause for each answer.
-use Rattle.std.specs.Prelude.{◌≡◌, ℕ, ◌*◌, ◌<◌, ◌≤◌, Bool, true, false, Option, Some, None}
-use Rattle.std.specs.Prelude.{length}
+use Rattle.std.specs.Prelude.{◌≡◌, ℕ, ◌*◌, ◌-◌, ◌^◌, ◌<◌, ◌≤◌, Bool, true, false, Option}
+use Rattle.std.specs.Prelude.{Some, None, length}
 use Rattle.hex_cells.specs.declared.colours.Colour.{Colour}
 use Rattle.hex_board.specs.Joined.{is_joined}
 use Rattle.hex_board.specs.Positions.{Position, is_empty_at, stones_of}
@@ -13,7 +13,7 @@ use Rattle.win_cert.specs.Cuts.{IsEdgeEntryAt}
 use Rattle.win_cert.specs.declared.certs.Cert.{Cert}
 use Rattle.win_cert.specs.declared.certs.TheConstants.{MOST_LINES}
 use Rattle.hex_found.specs.Found.{Certifies}
-use Rattle.hex_solve.specs.Deciding.{need}
+use Rattle.hex_solve.specs.Deciding.{lines_of, need}
 use Rattle.win_cert.specs.Showing.{Keeps}
 use Rattle.hex_solve.specs.declared.answers.Solved.{Solved}
 use Rattle.hex_solve.specs.declared.answers.Solved.TheVariants.{Won, Unknown, TooLong, Open}
@@ -54,6 +54,15 @@ TooLongNeedsMany p mover (Unknown spent own) = Unit {0}
 TooLongNeedsMany p mover (TooLong winner lines) =
     (MOST_LINES < lines) × (lines ≤ 2 * need p mover) × (few_cells < empty_count p)
 TooLongNeedsMany p mover (Open full) = Unit {0}
+
+-- the winner's certificate by the search without connections has so many lines, or more if this is
+-- the greatest number of 64 bits
+abbrev pub TooLongIsCounted : Position → Colour → Solved → Type 0
+TooLongIsCounted p mover (Won winner cert) = Unit {0}
+TooLongIsCounted p mover (Unknown spent own) = Unit {0}
+TooLongIsCounted p mover (TooLong winner lines) =
+    lines < 2 ^ 64 - 1 → lines ≡ lines_of winner p mover
+TooLongIsCounted p mover (Open full) = Unit {0}
 
 -- ---- none
 

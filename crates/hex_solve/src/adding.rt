@@ -7,8 +7,8 @@ ghost use Rattle.hex_board.specs.Joined.{is_joined};
 ghost use Rattle.hex_board.specs.Positions.{is_empty_at, placed, stones_of};
 ghost use Rattle.hex_cells.specs.declared.board_size.TheConstants.{MOST_CELLS};
 ghost use Rattle.conn_store.specs.declared.entries.Kind.{Kind};
-ghost use Rattle.hex_solve.specs.Ledgers.{AnswerAll, GrowsBy, MayStandNext, ShowsWin};
-ghost use Rattle.hex_solve.specs.Ledgers.{with_one_line};
+ghost use Rattle.hex_solve.specs.Ledgers.{AnswerAll, CountsBy, GrowsBy, MayStandNext};
+ghost use Rattle.hex_solve.specs.Ledgers.{ShowsWin, with_one_line};
 ghost use Rattle.win_cert.specs.Showing.{Keeps, scope_of};
 ghost use Rattle.win_cert.specs.declared.certs.TheConstants.{MOST_LINES};
 
@@ -25,6 +25,7 @@ impl Ledger {
         requires joined { is_joined board.now.size self.old.base.player
             (stones_of board.now self.old.base.player) ≡ true }
         ensures grows { OnOk result (GrowsBy 2 self.old self.new) }
+        ensures counts { OnOk result (CountsBy 2 self.old self.new) }
         ensures shows { IfOk result (ShowsWin self.new board.now Kind.Full) }
     {
         let scope = self.scope(board);
@@ -34,7 +35,7 @@ impl Ledger {
         Ok(number)
     }
 
-    /// Adds that the player wins by a stone on the cell, where this line shows that he wins then;
+    /// Adds that the player wins by a stone on the cell, if this line shows that he wins then;
     /// answers the number of the new line.
     pub fn add_move(&mut self, board: &Board, cell: Cell, line: u32) -> Result<u32, AllocError>
         requires keeps { Keeps self.old.base.board board.now }
@@ -42,6 +43,7 @@ impl Ledger {
         requires shows { ShowsWin self.old (placed board.now self.old.base.player cell)
             Kind.Full line }
         ensures grows { OnOk result (GrowsBy 2 self.old self.new) }
+        ensures counts { OnOk result (CountsBy 2 self.old self.new) }
         ensures shows { IfOk result (ShowsWin self.new board.now Kind.Semi) }
     {
         let scope = self.scope(board);
@@ -51,7 +53,7 @@ impl Ledger {
         Ok(number)
     }
 
-    /// Adds that the player wins after each stone of the other's, where these lines answer all;
+    /// Adds that the player wins after each stone of the other's, if these lines answer all;
     /// answers the number of the new line.
     pub fn add_cases(&mut self, board: &Board, lines: Vec<u32>) -> Result<u32, AllocError>
         requires keeps { Keeps self.old.base.board board.now }
@@ -59,6 +61,7 @@ impl Ledger {
         requires few { length lines.items ≤ MOST_CELLS }
         requires answers { AnswerAll self.old board.now lines.items }
         ensures grows { OnOk result (GrowsBy 2 self.old self.new) }
+        ensures counts { OnOk result (CountsBy 2 self.old self.new) }
         ensures shows { IfOk result (ShowsWin self.new board.now Kind.Full) }
     {
         let scope = self.scope(board);
@@ -77,7 +80,7 @@ impl Ledger {
             .minus(self.base.stones(self.player))
     }
 
-    // Adds a line that may follow, where there is room for it, and counts it elsewhere.
+    // Adds a line that may follow, if there is room for it, and else counts it.
     fn add(&mut self, line: Line) -> Result<(), AllocError>
         requires { length self.old.lines < MOST_LINES → MayStandNext self.old line }
         ensures { OnOk result (self.new ≡ with_one_line self.old line) }

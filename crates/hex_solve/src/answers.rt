@@ -10,10 +10,11 @@ use win_cert::Cert;
 pub enum Solved {
     /// The winner, with a certificate that he wins.
     Won { winner: Colour, cert: Cert },
-    /// The budget is spent. Where connections were looked for, there is the report of the player
-    /// to move, too.
+    /// The budget is spent. If connections were looked for, there is the report of the player to
+    /// move, too.
     Unknown { spent: u64, own: Option<Report> },
-    /// The winner. The certificate that was found has too many lines to be written: so many.
+    /// The winner. His certificate by the search without connections has too many lines to be
+    /// written: so many, up to the greatest number of 64 bits.
     TooLong { winner: Colour, lines: u64 },
     /// A full board that keeps all stones, on which nobody is joined. There is none, by a theorem
     /// of Hex that is not proved here.

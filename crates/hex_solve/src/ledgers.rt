@@ -1,6 +1,6 @@
 //! Ledgers: the lines of a player's certificate, which grow while a search goes on.
 
-ghost use Rattle.std.specs.Prelude.{◌≡◌, ◌<◌, ◌≤◌, [], MatchResult};
+ghost use Rattle.std.specs.Prelude.{◌≡◌, ◌-◌, ◌^◌, ◌<◌, [], MatchResult, min};
 ghost use Rattle.win_cert.specs.declared.certs.TheConstants.{MOST_LINES};
 ghost use Rattle.hex_solve.specs.Ledgers.{IsLedger, LedgerData, ShowsWin, count_of};
 ghost use Rattle.hex_solve.specs.Marks.{IsBefore, WasAt, mark_of};
@@ -99,7 +99,7 @@ impl Ledger {
     pub fn into_cert(self, claim: Kind, entry: u32) -> Result<Cert, u64>
         requires { ShowsWin self self.base.board claim entry }
         ensures { MatchResult result (IsCertOf self claim)
-            (λ lines. (MOST_LINES < lines) × (lines ≤ count_of self)) }
+            (λ lines. (MOST_LINES < lines) × (lines ≡ min (count_of self) (2 ^ 64 - 1))) }
     {
         if self.lost == 0 {
             Ok(Cert {

@@ -2,8 +2,9 @@
 //!
 //! **Nouns.** *First* of a position is the player who is told to win by trying each move, *need* is
 //! how many positions a search enters that tries the cells in rising order, and *bound* is the most
-//! that it can be with so many empty cells. A *ledger* has the lines of a player's certificate
-//! while that search goes on.
+//! that it can be with so many empty cells. *Lines of* a player are how many lines his certificate
+//! by that search has. A *ledger* has the lines of a player's certificate while that search goes
+//! on.
 //!
 //! **A caller** asks [`solve`] and takes its [`Solved`] apart:
 //!
@@ -15,12 +16,14 @@
 //! **What is proved.** A winner wins, whether his certificate fits or not. The certificate of one
 //! who has won has the latest version, can be written, is accepted, and is of this board, for him.
 //! It is unknown who wins only if the budget is below need, and need is at most bound
-//! ([`need_is_bounded`]). A certificate is too long only if more than nine cells are empty, and it
-//! would have at most two lines for each of need positions (specs/Solved.antt and Deciding.antt).
+//! ([`need_is_bounded`]). A certificate is too long only if more than nine cells are empty. How
+//! many lines it has is told: those of the winner, at most two for each of need positions
+//! (specs/Solved.antt and Deciding.antt).
 //!
 //! **What is only tested, or not said.** That calls get their memory; the time. That connections
-//! make the search shorter, beyond a semi entry between the mover's edges at the root. That a full
-//! board has a winner: [`Solved::Open`] would show one that has none.
+//! make the search shorter, beyond a semi entry between the mover's edges at the root, and that the
+//! search with connections gets the budget and no more. That a full board has a winner:
+//! [`Solved::Open`] would show one that has none.
 //!
 //! **Limits.** Those of `win_cert` and `hex_found`: a certificate has at most 200,000 lines. The
 //! plain search has two ledgers of at most so many.

@@ -17,7 +17,7 @@ use hsearch::Report;
 use std::alloc::Global;
 
 /// Who wins the board, on which nobody is joined, with `mover` to place: by a search that tries the
-/// cells in rising order and enters at most `budget` positions. Where it is unknown, the report is
+/// cells in rising order and enters at most `budget` positions. If it is unknown, the report is
 /// handed on.
 pub(crate) fn search_plainly(
     alloc: Global,
@@ -62,7 +62,7 @@ fn stopped(
     }
 }
 
-// That the ledger's player wins the board, by a certificate where it is not too long.
+// That the ledger's player wins the board, by a certificate if it is not too long.
 fn told(board: &Board, mover: Colour, ledger: Ledger, claim: Kind, line: u32) -> Solved
     requires { IsToldBy board.now mover claim line ledger }
     ensures { (own : Option StoreData) (budget : ℕ)

@@ -5,8 +5,8 @@ ghost use Rattle.hex_board.specs.Joined.{winner_of};
 ghost use Rattle.hex_board.specs.Positions.{IsPosition};
 ghost use Rattle.hsearch.specs.Closed.{IsReportOf};
 ghost use Rattle.hex_found.specs.Found.{IsCertifiedWinner};
-ghost use Rattle.hex_solve.specs.Solved.{IsUndecided, OpenIsFull, TooLongNeedsMany};
-ghost use Rattle.hex_solve.specs.Solved.{UnknownNeedsMore, WinnerWins, WonIsCertified, WonIsShort};
+ghost use Rattle.hex_solve.specs.Solved.{IsUndecided, OpenIsFull, TooLongIsCounted};
+ghost use Rattle.hex_solve.specs.Solved.{TooLongNeedsMany, UnknownNeedsMore, WinnerWins, WonIsCertified, WonIsShort};
 ghost use Rattle.hex_solve.specs.PlainAnswer.{IsSolverAnswer};
 
 use super::answers::Solved;
@@ -29,8 +29,9 @@ use win_cert::{Cert, accepted_certificates_win, cut, edge_numbers, raise};
 /// often as a list of moves leads to it.
 ///
 /// It answers the winner with a certificate of the latest version, that the budget is spent, the
-/// winner alone if the certificate of the search without connections would have too many lines, or
-/// a full board on which nobody is joined, if there is one. It refuses for want of memory alone.
+/// winner with the number of lines if the certificate of the search without connections has too
+/// many, or a full board on which nobody is joined, if there is one. It refuses only if memory runs
+/// out.
 pub fn solve(
     alloc: Global,
     board: &Board,
@@ -44,6 +45,7 @@ pub fn solve(
     ensures short { IfOk result (WonIsShort board.now mover hsearch) }
     ensures unknown { IfOk result (UnknownNeedsMore board.now mover hsearch budget) }
     ensures too_long { IfOk result (TooLongNeedsMany board.now mover) }
+    ensures counted { IfOk result (TooLongIsCounted board.now mover) }
     ensures open { IfOk result (OpenIsFull board.now) }
 {
     if !hsearch {
@@ -81,7 +83,7 @@ fn search_both(
 }
 
 // What connections decide: a certificate that the mover wins, cut from the first semi entry between
-// his edges in his report. `None` exactly where the report has no such entry.
+// his edges in his report. `None` exactly if the report has no such entry.
 fn by_connections(
     alloc: Global,
     board: &Board,
