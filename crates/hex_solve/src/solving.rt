@@ -6,7 +6,8 @@ ghost use Rattle.hex_board.specs.Positions.{IsPosition};
 ghost use Rattle.hsearch.specs.Closed.{IsReportOf};
 ghost use Rattle.hex_found.specs.Found.{IsCertifiedWinner};
 ghost use Rattle.hex_solve.specs.Solved.{IsUndecided, OpenIsFull, TooLongIsCounted};
-ghost use Rattle.hex_solve.specs.Solved.{TooLongNeedsMany, UnknownNeedsMore, WinnerWins, WonIsCertified, WonIsShort};
+ghost use Rattle.hex_solve.specs.Solved.{TooLongNeedsMany, UnknownNeedsMore, WinnerWins};
+ghost use Rattle.hex_solve.specs.Solved.{WonIsCertified, WonIsShort};
 ghost use Rattle.hex_solve.specs.PlainAnswer.{IsSolverAnswer};
 
 use super::answers::Solved;
