@@ -5,7 +5,8 @@ from openings import vertex
 HEAD = """# Openings solved
 
 `openings/draw.py` writes this page from openings/measured.tsv, to which `openings/find.py` adds a row for each opening \
-that `hexd solve` wins, with a budget of 10,000,000. An opening and its half turn have a row each. Each certificate was \
+that `hexd solve` wins, with a budget of 10,000,000. An opening and its half turn have a row each, but of 7 by 7 only those \
+that were tried anew. Each certificate was \
 accepted by `hexd check` and by tools/second_checker.py. The seconds are processor time of one thread, on a machine that \
 was busy with other work, where the same run takes up to a third longer than alone. MB is the most memory that was seen \
 by a look twenty times a second; a run that was too short for one has none. How many positions were entered is not \
