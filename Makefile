@@ -26,7 +26,8 @@ share = $(datadir)/hexd
 
 # Folders whose files lie in share, and stand among the documents by a link.
 folders = board examples gtp openings
-scripts = $(wildcard examples/*.py openings/check openings/draw.py openings/find.py tools/second_checker.py)
+scripts = $(wildcard examples/*.py openings/check openings/draw.py openings/find.py openings/positions.py \
+    tools/second_checker.py)
 texts = $(filter-out %/test.py $(scripts),$(wildcard $(folders:%=%/*.md) $(folders:%=%/*.py) \
     board/page/* board/report.html openings/Makefile openings/*.tsv tools/programs.py tools/python.bash))
 others = $(wildcard examples/certificates/* openings/*.xz openings/pictures/*)

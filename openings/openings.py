@@ -13,6 +13,7 @@ from typing import NamedTuple
 FOLDER = Path(__file__).resolve().parent
 LIST = FOLDER / "openings.tsv"
 MEASURED = FOLDER / "measured.tsv"
+POSITIONS = FOLDER / "positions.tsv"
 LETTERS = "abcdefghijk"
 ENDING = ".cert.xz"
 # Who wins claims this kind: Black with White to move, or White with himself to move.
@@ -88,6 +89,12 @@ def measured():
     rows = [line.split("\t") for line in MEASURED.read_text().splitlines()] if MEASURED.exists() else []
     found = {opening_named(name): Measured(winner, int(a), float(b), int(c)) for name, winner, a, b, c in rows}
     return dict(sorted(found.items()))
+
+
+def positions(path=POSITIONS):
+    """How many positions `hexd solve` enters for openings, if it is known."""
+    rows = [line.split("\t") for line in path.read_text().splitlines()] if path.exists() else []
+    return {opening_named(name): int(count) for name, count in rows}
 
 
 @functools.cache

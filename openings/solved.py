@@ -1,6 +1,6 @@
 """The page docs/use/SOLVED.md: what `hexd solve` took for openings, from measured.tsv."""
 
-from openings import vertex
+from openings import positions, vertex
 
 HEAD = """# Openings solved
 
@@ -9,8 +9,9 @@ that `hexd solve` wins, with a budget of 10,000,000. An opening and its half tur
 that were tried anew. Each certificate was \
 accepted by `hexd check` and by tools/second_checker.py. The seconds are processor time of one thread, on a machine that \
 was busy with other work, where the same run takes up to a third longer than alone. MB is the most memory that was seen \
-by a look twenty times a second; a run that was too short for one has none. How many positions were entered is not \
-in the table, since the answer of `solve` doesn't tell it. No test compares these figures.
+by a look twenty times a second; a run that was too short for one has none. No test compares them. The positions are \
+those that the search entered, which is the least budget with which `hexd solve` wins: `openings/positions.py` finds \
+it, since the answer doesn't tell it. Where they are missing that would have taken too long.
 
 `openings/find.py --again --whole --out mine 6` makes all of 6 by 6 anew. `bin/hexd solve <GAME.sgf | \
 examples/winning_move.py` prints the winning move of an answer.
@@ -40,15 +41,19 @@ def summary(size, entries):
     return f"{size} by {size}", count, f"{together:.1f}", f"{seconds:.1f}", f"{lines:,}", megabytes
 
 
+def row(opening, entry, entered):
+    """An opening with what it took."""
+    count = f"{entered:,}" if entered else "-"
+    return vertex(*opening), entry.winner, count, f"{entry.lines:,}", f"{entry.seconds:.1f}", entry.megabytes or "-"
+
+
 def page(measured):
     """The text of the page."""
     sizes = by_size(measured)
     head = ("board", "openings", "seconds together", "the slowest", "most lines", "most MB")
+    entered = positions()
     parts = [HEAD, table(head, [summary(size, entries) for size, entries in sizes.items()])]
     for size, entries in sizes.items():
-        rows = [
-            (vertex(*opening), entry.winner, f"{entry.lines:,}", f"{entry.seconds:.1f}", entry.megabytes or "-")
-            for opening, entry in entries
-        ]
-        parts.append(f"\n## {size} by {size}\n\n" + table(("stone", "winner", "lines", "seconds", "MB"), rows))
+        rows = [row(opening, entry, entered.get(opening)) for opening, entry in entries]
+        parts.append(f"\n## {size} by {size}\n\n" + table(("stone", "winner", "positions", "lines", "seconds", "MB"), rows))
     return "".join(parts)

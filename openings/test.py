@@ -7,7 +7,7 @@ of size 3 also each other line cut off. openings/check refuses each file of size
 true certificate with a claim that is not the opening's, a file with a byte changed, and an opening that is missing.
 find.py makes size 3 anew, openings/check accepts what it makes, and a second start finds nothing left to do; a budget
 that is too small leaves an opening open; after Ctrl-C there is no part of a file. The rows that it adds are those that
-the page docs/use/SOLVED.md is made of.
+the page docs/use/SOLVED.md is made of. positions.py comes to the same number from any other.
 
 HEXD names the program; where it isn't set that is bin/hexd.
 """
@@ -168,6 +168,16 @@ def expect_found(folder):
     expect(status == 1 and len(said) == 1 and "unknown 1;" in said[0], f"find.py with a small budget: {status}, {said}")
 
 
+def expect_positions(folder):
+    """The least budget that is enough: from nothing, from a right number and from wrong ones, an odd one among them."""
+    out = folder / "positions.tsv"
+    for guess in ("", "4-d1\t5\n", "4-d1\t3\n", "4-d1\t40\n"):
+        out.write_text(guess)
+        done = subprocess.run([FOLDER / "positions.py", "--out", out, "4-d1"], capture_output=True, text=True)
+        seen = (done.returncode, done.stdout, out.read_text())
+        expect(seen == (0, "4-d1\t5\n", "4-d1\t5\n"), f"positions.py from {guess!r}: {seen}")
+
+
 def expect_interrupted(folder):
     """After Ctrl-C it ends in order: what it had found is there, and no part of another file."""
     words = [FOLDER / "find.py", "--out", folder, "3-a1", "7-b3"]
@@ -185,7 +195,8 @@ def expect_interrupted(folder):
 def main():
     expect_refusals()
     expect_other_statuses()
-    for trial in (expect_other_names, expect_other_claim, expect_whole_files, expect_found, expect_interrupted):
+    trials = expect_other_names, expect_other_claim, expect_whole_files, expect_found, expect_positions, expect_interrupted
+    for trial in trials:
         with tempfile.TemporaryDirectory() as folder:
             trial(Path(folder))
     for fault in faults:
