@@ -11,7 +11,7 @@ accepted by `hexd check` and by tools/second_checker.py. The seconds are process
 was busy with other work, where the same run takes up to a third longer than alone. MB is the most memory that was seen \
 by a look twenty times a second; a run that was too short for one has none. No test compares them. The positions are \
 those that the search entered, which is the least budget with which `hexd solve` wins: `openings/positions.py` finds \
-it, since the answer doesn't tell it. Where they are missing that would have taken too long.
+it, since the answer doesn't tell it. If a row has none, that was not tried: it takes ten times as long as the rest.
 
 `openings/find.py --again --whole --out mine 6` makes all of 6 by 6 anew. `bin/hexd solve <GAME.sgf | \
 examples/winning_move.py` prints the winning move of an answer.
