@@ -5,13 +5,13 @@ from openings import positions, vertex
 HEAD = """# Openings solved
 
 `openings/draw.py` writes this page from openings/measured.tsv, to which `openings/find.py` adds a row for each opening \
-that `hexd solve` wins, with a budget of 10,000,000. An opening and its half turn have a row each, but of 7 by 7 only those \
-that were tried anew. Each certificate was \
+that `hexd solve` solves with a budget of 10,000,000. An opening and its half turn have a row each; of 7 by 7 only those \
+are here that were tried anew. Each certificate was \
 accepted by `hexd check` and by tools/second_checker.py. The seconds are processor time of one thread, on a machine that \
-was busy with other work, where the same run takes up to a third longer than alone. MB is the most memory that was seen \
-by a look twenty times a second; a run that was too short for one has none. No test compares them. The positions are \
-those that the search entered, which is the least budget with which `hexd solve` wins: `openings/positions.py` finds \
-it, since the answer doesn't tell it. If a row has none, that was not tried: it takes ten times as long as the rest.
+was busy with other work, which makes a run up to a third longer. MB is the most memory that was seen \
+by a look twenty times a second; a run that was too short for one has none. No test compares seconds or MB. The positions \
+are those that the search entered, which is the least budget with which `hexd solve` wins. The answer doesn't tell it, \
+so `openings/positions.py` looks for it, which takes ten times as long as the rest: rows without it were not tried.
 
 `openings/find.py --again --whole --out mine 6` makes all of 6 by 6 anew. `bin/hexd solve <GAME.sgf | \
 examples/winning_move.py` prints the winning move of an answer.
