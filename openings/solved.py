@@ -13,8 +13,7 @@ by a look twenty times a second; a run that was too short for one has none. No t
 are those that the search entered, which is the least budget with which `hexd solve` wins. The answer doesn't tell it, \
 so `openings/positions.py` looks for it, which takes ten times as long as the rest: rows without it were not tried.
 
-`openings/find.py --again --whole --out mine 6` makes all of 6 by 6 anew. `bin/hexd solve <GAME.sgf | \
-examples/winning_move.py` prints the winning move of an answer.
+openings/README.md says how to make them anew.
 
 """
 
