@@ -51,9 +51,10 @@ SMALL = 200
 FEW_PAGES = 320
 # Tests of the board's page in the quick form; and those that are of its server, which also reads records of other programs.
 OF_BOARD = """test_size_3_by_clicks test_size_11_by_clicks_and_keys_against_hexd test_hexd_against_itself test_swap
-test_save_and_open test_stop_ends_a_search test_a_certified_win test_the_map_on_an_empty_board""".split()
+test_save_and_open test_a_certified_win test_the_map_on_an_empty_board""".split()
 OF_SERVER = """test_a_lost_process test_a_page_that_goes_ends_its_session test_the_page_after_the_last_place test_copies
-test_a_record_of_another_program test_what_is_refused_says_why test_what_a_record_says_is_kept""".split()
+test_a_record_of_another_program test_what_is_refused_says_why test_what_a_record_says_is_kept
+test_stop_ends_a_search test_back_without_a_process""".split()
 
 
 def missing():
@@ -247,6 +248,22 @@ class Page(InBrowser):
         self.assertNotEqual(first, second)
         self.assertTrue(self.moves())
 
+    def test_stop(self):
+        """It ends the worker that searches, and another one has the game."""
+        browser = self.open(f"{self.small.as_uri()}#11,f6")
+        browser.choose("#player-w", "I")
+        browser.choose("#strength", "1000000")
+        first = self.in_page("runOfPage", 1)
+        browser.press("#go")
+        until(lambda: browser.find("#stop").is_displayed(), "there is Stop")
+        browser.press("#stop")
+        browser.ready()
+        self.assertEqual(["f6"], self.moves())
+        self.assertNotEqual(first, self.in_page("runOfPage", 1))
+        browser.choose("#strength", str(SMALL))
+        browser.click("#go")
+        self.assertEqual(("f6", 2), (self.moves()[0], len(self.moves())))
+
     def test_two_pages_at_once(self):
         browser = self.open(f"{self.small.as_uri()}#4,b2")
         first = browser.driver.current_window_handle
@@ -284,16 +301,17 @@ class Page(InBrowser):
         self.browser.faults()
 
     def test_a_browser_that_lacks_something(self):
-        told = {"source": "delete WebAssembly.Suspending"}
         driver = self.browser.driver
-        number = driver.execute_cdp_cmd("Page.addScriptToEvaluateOnNewDocument", told)["identifier"]
-        try:
-            self.open()
-            said = self.browser.text("#alert-text")
-        finally:
-            driver.execute_cdp_cmd("Page.removeScriptToEvaluateOnNewDocument", {"identifier": number})
-        self.assertIn("lacks 64-bit memories or suspending of WebAssembly", said)
-        self.assertIn(page.TRIED, said)
+        for lack in ("delete WebAssembly.Suspending", "WebAssembly.validate = () => false"):
+            told = {"source": lack}
+            number = driver.execute_cdp_cmd("Page.addScriptToEvaluateOnNewDocument", told)["identifier"]
+            try:
+                self.open()
+                said = self.browser.text("#alert-text")
+            finally:
+                driver.execute_cdp_cmd("Page.removeScriptToEvaluateOnNewDocument", {"identifier": number})
+            self.assertIn("lacks 64-bit memories or suspending of WebAssembly", said, lack)
+            self.assertIn(page.TRIED, said)
 
     def test_openings(self):
         """Of each opening of the small boards the page says what the folder openings/ has, in both of its cells."""
@@ -305,6 +323,16 @@ class Page(InBrowser):
             size, vertex = name.split("-")
             self.assertEqual(winner, self.in_page("Session.winner", int(size), vertex), name)
         self.assertIsNone(self.in_page("Session.winner", 6, "a1"))
+
+    def test_a_wrong_opening(self):
+        """Of a certificate that a run of hexd refuses the page says nothing."""
+        self.open()
+        right = page.openings()["3-a1"]
+        *lines, claim = right.removesuffix("\n").split("\n")
+        wrong = "\n".join([*lines, "semi 0", ""])
+        self.assertNotEqual("semi 0", claim)
+        self.assertEqual(["white", None, None], [self.in_page("provedBy", *it) for it in (
+            (right, 3, "a1"), (wrong, 3, "a1"), (right, 3, "b1"))])
 
 
 class NoServer:
