@@ -72,7 +72,7 @@ class Ends(unittest.TestCase):
 
     def test_what_it_searches_with(self):
         for words, want in (
-            ([], {"playouts": 100_000, "weight": 0, "workers": settings.BEST["workers"]}),
+            ([], {"playouts": 100_000, "weight": 0, "workers": min(4, len(os.sched_getaffinity(0)))}),
             (["--playouts", "500", "--weight", "180", "--workers", "2"], {"playouts": 500, "weight": 180, "workers": 2}),
         ):
             with Server(words=words, small=False) as server:

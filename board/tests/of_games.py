@@ -177,6 +177,16 @@ class Lasting(Pages):
         self.soon(["c3", "b3", "d2"], self.moves)
         browser.forward()
         self.soon("4,a2", self.link)
+        # A record that is opened, and moves from the box, take no game's place either.
+        self.opened(b"(;GM[11]SZ[3];B[b2])")
+        self.soon("3,b2", self.link)
+        browser.find("#link").clear()
+        browser.find("#link").send_keys("5,e5", Keys.ENTER)
+        self.soon("5,e5", self.link)
+        browser.back()
+        self.soon("3,b2", self.link)
+        browser.back()
+        self.soon("4,a2", self.link)
 
     def test_clicks_wait_their_turn(self):
         browser = self.start("6")

@@ -72,6 +72,11 @@ class Records(Pages):
         self.assertIn("Move 4 is a pass of White's, which Hex hasn't: it is left out.", said)
         self.assertIn("A side line is left out: move 6 is no move: White 'q-q'.", said)
         self.assertIn("Jos\u00e9", browser.text("#record .names"))
+        self.opened(b"(;SZ[5];B[c3]LB[a1:x];LB[b2:y]C[Later];W[b3])")
+        self.soon("5,c3,b3", self.link)
+        self.soon("Left out: LB of nodes without a move.", self.words("#said"))
+        browser.click("#back")
+        self.soon("Later", self.words("#record .comment"))
 
     def test_links(self):
         browser = self.start("5,+b-c3,+w-b3,+b-e5,w-a1,a2")
@@ -109,11 +114,16 @@ class Records(Pages):
             ("https://hexworld.org/board/#9c1,a3:sf6", "9,a3,swap,f6"),
             ("https://hexworld.org/board/#9,a3b4,c5d6", "9,a3,b4,c5,d6,@2"),
             ("7,a3,swap,b2,@1", "7,a3,swap,b2,@1"),
-            ("(;SZ[4];B[b2];W[C3])", "4,b2,c3"),
+            ("(;SZ[4];B[b2];W[c3])", "4,b2,c3"),
         ):
             with self.subTest(text=text):
                 self.enter(text)
                 self.soon(link, self.link)
+
+    def test_a_record_of_another_program_in_the_box(self):
+        self.start("6")
+        self.enter("(;SZ[4];B[b2];W[C3])")
+        self.soon("4,b2,c3", self.link)
 
     def test_copies(self):
         browser = self.start("9,a3,swap,b4,c5,@2")

@@ -1,5 +1,6 @@
 """Reports: of a whole game, opened in a browser; and why there is none."""
 
+import os
 import re
 import subprocess
 import tempfile
@@ -11,6 +12,8 @@ from tests.support import LIMIT_SECONDS, ROOT, SMALL, dying
 # White has a certified win before move 4, Black after it, and White again after move 5.
 GAME = "(;FF[4]GM[11]SZ[5]PB[<b>&]C[a ';B[a1\\]'];B[c2];W[c3];B[d3];W[a1];B[a2];W[c4];B[d4];W[d2];B[b3];W[b4];B[a5];W[a4])"
 SWAPPED = "(;GM[11]SZ[3];B[b2];W[swap-pieces];B[a2];W[c1];B[resign])"
+# Both play along the edges.
+WEAK = "(;GM[11]SZ[7];B[a1];W[g7];B[g1];W[a7];B[b1];W[f7];B[f1];W[b7];B[c1];W[e7])"
 # White plays by his certificate of move 4, and answers by it.
 PROVED = "(;GM[11]SZ[5];B[c2];W[c3];B[d3];W[c4];B[a1];W[a2])"
 
@@ -46,6 +49,15 @@ class Reports(unittest.TestCase):
         self.assertEqual(0, run.returncode, run.stderr)
         self.assertIn("<h1>Standard input</h1>", run.stdout)
         self.assertIn("<p>Move 4 is a pass of White&#x27;s, which Hex hasn&#x27;t: it is left out.</p>", run.stdout)
+
+    def test_what_it_searches_with(self):
+        workers = min(4, len(os.sched_getaffinity(0)))
+        for words, want in (
+            ([], f"100,000 playouts a move, weight 0, {workers} worker{'s' * (workers > 1)}"),
+            (["--playouts", "9", "--weight", "180", "--workers", "2"], "9 playouts a move, weight 180, 2 workers"),
+        ):
+            run = reported(*words, "-", given="(;SZ[1])")
+            self.assertIn(f"looked at by hexd with {want}<", run.stdout, run.stderr)
 
     def test_what_is_refused(self):
         missing = reported(self.folder / "none.sgf")
@@ -131,9 +143,17 @@ def in_browser(shots):
             self.assertRegex(losses[0], r"^4 a1 loses 100: from wins to lost; hexd's move [a-e][1-5]$")
             self.assertRegex(losses[1], r"^5 a2 loses 100: from wins to lost; hexd's move [a-e][1-5]$")
             cells = [cell.text for cell in browser.all("#moves tbody tr:nth-child(4) td")]
-            self.assertEqual(["4 a1", "wins", "lost", "100"], cells[:1] + cells[2:])
+            self.assertRegex(" ".join(cells), "^4 a1 [a-e][1-5] wins lost 100$")
             browser.click("#losses li:nth-child(2) button")
             self.assertIn("After move 4: White a1", browser.text("#said"))
+
+        def test_five_losses(self):
+            self.open(WEAK)
+            browser = self.browser
+            points = [int(cell.text) for cell in browser.all("#moves tbody td:last-child") if cell.text not in ("", "0")]
+            self.assertGreater(len(points), 5)
+            told = [int(re.search(r"loses (\d+):", loss.text)[1]) for loss in browser.all("#losses li")]
+            self.assertEqual(sorted(points, reverse=True)[:5], told)
 
         def test_print(self):
             self.open(GAME)
@@ -165,7 +185,10 @@ def in_browser(shots):
             self.assertIn("White wins by", self.to(5))
             # The record's move is another one, but also one by the first certificate.
             self.assertIn("Black has lost: White's certificate of move 4.", self.to(6))
-            self.assertNotIn("Black won", self.browser.text("#said").split("With Black to move")[0])
+            # It stands before what a search says, in the plot too.
+            self.assertRegex(self.browser.text("#said"), r"^After move 6: .*\nBlack has lost: .*\nWith Black to move:\n")
+            titles = self.browser.run("return [...document.querySelectorAll('#plot title')].map(title => title.textContent)")
+            self.assertEqual([f"after {at} moves: White wins, proved" for at in range(3, 7)], titles[-4:])
 
         def test_a_swapped_game(self):
             self.open(SWAPPED)
@@ -178,6 +201,6 @@ def in_browser(shots):
             self.assertIn("Black loses with every move", self.to(2))
             self.assertIn("This move gives the win away.", self.to(3))
 
-        test_a_report_stands_alone = test_what_is_refused = test_standard_input = None
+        test_a_report_stands_alone = test_what_is_refused = test_standard_input = test_what_it_searches_with = None
 
     return Opened

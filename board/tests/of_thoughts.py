@@ -136,6 +136,9 @@ class Certificates(Pages):
         browser.click("#hint")
         self.soon("Black has lost: White's certificate of move 4.", self.words("#words .proved"))
         self.soon(2, self.marks("#plot .mark.proved"))
+        # It stands before what the search says.
+        self.assertRegex(browser.text("#words"), r"^Black has lost: .*\nWith Black to move here:\n")
+        self.soon_in(" of 200 visits", "#words")
         carrier = self.empty_carrier()
         browser.cell(min(carrier))
         self.soon_in("White wins: White's certificate of move 4. It answers ", "#words .proved")
@@ -163,11 +166,12 @@ class Certificates(Pages):
         browser.click("#prove")
         self.soon_in("Solved: ", "#words .proved")
         self.soon("hexd check accepts it, in a process of its own.", self.words("#checked"))
-        said = browser.text("#words .proved")
-        if move := re.search("wins by ([a-d][1-4])", said):
-            self.assertEqual([move[1]], browser.vertices("[data-vertex]:has(.chosen)"))
-            browser.cell(move[1])
-            self.soon_in("certificate of move 3", "#words .proved")
-        self.soon(True, lambda: len(browser.all("#plot .mark.proved")) > 0)
-        browser.choose("#size", "7")
-        self.assertFalse(browser.find("#prove").is_enabled())
+        move = re.search("Black wins by ([a-d][1-4])", browser.text("#words .proved"))[1]
+        self.assertEqual([move], browser.vertices("[data-vertex]:has(.chosen)"))
+        self.assertIn(move, self.carrier())
+        browser.cell(move)
+        self.soon_in("certificate of move 3", "#words .proved")
+        self.soon(2, self.marks("#plot .mark.proved"))
+        for size in range(1, 12):
+            browser.choose("#size", str(size))
+            self.assertEqual(size <= 6, browser.find("#prove").is_enabled(), size)

@@ -45,6 +45,13 @@ class Windows(Pages):
         browser = self.start("2")
         height = "return document.querySelector('.labels text').getBoundingClientRect().height"
         self.assertLess(browser.run(height), 32)
+        # In pixels of the window; a cell of this board is some hundred wide.
+        width = """
+            const line = document.querySelector(arguments[0]), {a} = document.getElementById('board').getScreenCTM();
+            return a * parseFloat(getComputedStyle(line).strokeWidth)"""
+        browser.cell("a1")
+        for css in (".cell", ".band", ".stone"):
+            self.assertTrue(0 < browser.run(width, css) <= 2, css)
 
     def test_switches_explain_themselves(self):
         browser = self.start("3")
@@ -72,7 +79,10 @@ class Windows(Pages):
         browser = self.start("5,a5")
         for orientation, above in (("wide", "a1"), ("upright", "a1"), ("flipped", "a5")):
             browser.choose("#orientation", orientation)
-            places = {vertex: browser.place(f"[data-vertex={vertex}] .cell") for vertex in ("a1", "a5")}
+            places = {vertex: browser.place(f"[data-vertex={vertex}] .cell") for vertex in ("a1", "e1", "a5", "e5")}
             self.assertEqual(above, min(places, key=lambda vertex: places[vertex][1]))
+            # A row lies level, or the board stands on a corner.
+            level = ("a5", "e1") if orientation == "upright" else ("a1", "e1")
+            self.assertAlmostEqual(places[level[0]][1], places[level[1]][1], 0)
             self.shot(f"orientation-{orientation}")
         browser.choose("#orientation", "auto")
