@@ -185,6 +185,7 @@ def lists_fault():
     menu = run(WITH, SMALL, b"hexgui-analyze_commands\n")[1][2:-2].split(b"\n")
     known = run(WITH, SMALL, b"".join(b"known_command %s\n" % name for name in mine))[1]
     lost = [entry for entry in menu if entry.split(b"/")[2].split()[0] not in mine]
+    lost += [form for form in (b"plist", b"pspairs", b"varc") if not any(entry.startswith(form + b"/") for entry in menu)]
     for name in (b"help", b"gogui-analyze_commands"):
         same = {b"help": mine, b"gogui-analyze_commands": menu}[name]
         lost += [] if run(WITH, SMALL, name + b"\n")[1][2:-2].split(b"\n") == same else [name]

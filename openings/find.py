@@ -26,9 +26,9 @@ from pathlib import Path
 
 from openings import ENDING, FOLDER, KINDS, MEASURED, can_unpack, opening_named, openings_of, vertex
 
-sys.path.insert(0, str(FOLDER.parent / "tools"))
+sys.path += [str(FOLDER.parent / "tools"), str(FOLDER.parent / "board")]
 import second_checker
-from programs import HEXD, checked
+from hexd import PROGRAM, EngineEnded, check
 
 BUDGET = 10_000_000
 INTERRUPTED = 130
@@ -62,7 +62,7 @@ def solved(opening, budget):
     with tempfile.TemporaryFile() as given, tempfile.TemporaryFile() as said:
         given.write(f"(;GM[11]SZ[{opening.size}];B[{vertex(*opening)}])".encode())
         given.seek(0)
-        process = subprocess.Popen([HEXD, "solve", "--budget", str(budget)], stdin=given, stdout=said)
+        process = subprocess.Popen([PROGRAM, "solve", "--budget", str(budget)], stdin=given, stdout=said)
         try:
             usage, megabytes = ended(process)
         except KeyboardInterrupt:
@@ -92,8 +92,8 @@ def find(opening, budget, folder):
     winner = head.decode().removeprefix("won ")
     if winner not in KINDS:
         return f"{head.decode() or 'no answer'}; {cost}", False
-    answers = checked(text), second_checker.answer(text)
-    if answers != ((f"yes {KINDS[winner]}", 0), f"yes {KINDS[winner]}"):
+    answers = check(text), second_checker.answer(text)
+    if answers != (f"yes {KINDS[winner]}", f"yes {KINDS[winner]}"):
         return f"{winner} wins, by a certificate of which the checkers say {answers}", False
     if opening.has_file():
         write(folder / f"{opening}{ENDING}", text)
@@ -125,6 +125,18 @@ def named(names, whole):
     return None if None in found else list(dict.fromkeys(found))
 
 
+def find_all(openings, options):
+    """Finds those that are not there yet, and prints what is found: how many have no certificate."""
+    missing = 0
+    for opening in openings:
+        if (options.out / f"{opening}{ENDING}").exists() and not options.again:
+            continue
+        said, is_found = find(opening, options.budget, options.out)
+        missing += not is_found
+        print(f"{opening}: {said}", flush=True)
+    return missing
+
+
 def main():
     options = words()
     if options.list:
@@ -140,15 +152,12 @@ def main():
     except OSError as fault:
         print(f"openings/find.py: {options.out} can't be written: {fault.strerror}", file=sys.stderr)
         return 1
-    checked(b"")  # Where it has to be built.
-    missing = 0
-    for opening in openings:
-        if (options.out / f"{opening}{ENDING}").exists() and not options.again:
-            continue
-        said, is_found = find(opening, options.budget, options.out)
-        missing += not is_found
-        print(f"{opening}: {said}", flush=True)
-    return 1 if missing else 0
+    try:
+        check(b"")  # Where it has to be built.
+        return 1 if find_all(openings, options) else 0
+    except (OSError, EngineEnded) as fault:
+        print(f"openings/find.py: {fault}", file=sys.stderr)
+        return 1
 
 
 if __name__ == "__main__":

@@ -166,6 +166,10 @@ def expect_found(folder):
     expect(seen == want, f"find.py to a file in place of a folder: {seen}")
     status, said = find("--out", folder, "--budget", "1", "7-b3")
     expect(status == 1 and len(said) == 1 and "unknown 1;" in said[0], f"find.py with a small budget: {status}, {said}")
+    words = [FOLDER / "find.py", "--out", folder, "--again", "3-a1"]
+    done = subprocess.run(words, capture_output=True, text=True, env={**os.environ, "HEXD": "/dev/null"})
+    seen = (done.returncode, done.stdout, len(done.stderr.splitlines()))
+    expect(seen == (1, "", 1), f"find.py without hexd: {seen}, {done.stderr}")
 
 
 def expect_positions(folder):
@@ -192,9 +196,21 @@ def expect_interrupted(folder):
     expect(names == [f"3-a1{ENDING}", MEASURED.name], f"find.py after Ctrl-C: {names}")
 
 
+def expect_interrupted_check():
+    """After Ctrl-C, which its workers get too, openings/check ends without a word."""
+    words = [FOLDER / "check", "3", "4", "5", "6"]
+    process = subprocess.Popen(words, stdout=subprocess.PIPE, stderr=subprocess.PIPE, text=True, start_new_session=True)
+    process.stdout.readline()
+    os.killpg(process.pid, signal.SIGINT)
+    rest, errors = process.communicate()
+    fits = (process.returncode, errors) == (130, "") and "accepted" not in rest
+    expect(fits, f"openings/check after Ctrl-C: status {process.returncode}, {rest[-200:]}, {errors}")
+
+
 def main():
     expect_refusals()
     expect_other_statuses()
+    expect_interrupted_check()
     trials = expect_other_names, expect_other_claim, expect_whole_files, expect_found, expect_positions, expect_interrupted
     for trial in trials:
         with tempfile.TemporaryDirectory() as folder:
