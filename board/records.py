@@ -183,9 +183,12 @@ def read(content):
 def why_refused(ask, record):
     """Why hexd doesn't load a record: which move it refuses, and why. `ask` gives an answer's text, None of a failure."""
     root, _ = tree_of(record.main)
-    if any(name in root.properties for name in ("AB", "AW")):
-        return "hexd can't play it: two stones of the start lie on one cell, or a move is illegal"
     ask(f"boardsize {record.size}")
+    # Stones of the start are played too: hexd takes moves out of turn.
+    for colour in COLOURS:
+        for cell in root.properties.get(f"A{colour}", []):
+            if ask(f"play {colour} {cell}") is None:
+                return f"no stone of the start can lie on {cell}, for {why_illegal(ask, cell, record.size)}"
     node, number = root, 0
     while node.children:
         node, number = node.children[0], number + 1

@@ -70,6 +70,9 @@ class Reports(unittest.TestCase):
             (GAME.replace("d4", "c4"), "move 7 is illegal: Black c4, for there is a stone on it"),
             ("(;SZ[3];B[b2](;W[z9])(;W[a1]))", "move 2 is illegal: White z9, for the board of size 3 has no such cell"),
             ("(;GM[11]SZ[1];B[a1];W[a1])", "move 2 is illegal: White a1, for Black has won before"),
+            ("(;SZ[3]AB[b2][c1]AW[a1];W[a2];B[c1])", "move 2 is illegal: Black c1, for there is a stone on it"),
+            ("(;SZ[3]AB[b2]AW[b2];W[a2])", "no stone of the start can lie on b2, for there is a stone on it"),
+            ("(;SZ[3]AB[d4];W[a2])", "no stone of the start can lie on d4, for the board of size 3 has no such cell"),
         ):
             run = self.report(record)
             self.assertEqual((1, ""), (run.returncode, run.stdout))
