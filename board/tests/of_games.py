@@ -18,6 +18,8 @@ class Games(Pages):
         self.soon(9, self.marks("[data-vertex]"))
         self.soon_in("Black joins row 1 and row 3, White joins column a and column c", "#words")
         self.soon("Your turn (Black)", self.words("#state"))
+        colour = "return getComputedStyle(document.getElementById('status')).backgroundColor"
+        before = browser.run(colour)
         for vertex in ("b2", "a1", "b1", "c3"):
             browser.cell(vertex)
         browser.cell("b1")
@@ -26,6 +28,7 @@ class Games(Pages):
         browser.cell("b3")
         self.soon("Black has won.", self.words("#state"))
         self.assertEqual("won", browser.find("#status").get_attribute("class"))
+        self.assertNotEqual(before, browser.run(colour))
         self.assertEqual(3, len(browser.find(".chain").get_attribute("points").split()))
         self.assertIn("wanted", browser.find("#new").get_attribute("class"))
         self.soon(["b2", "a1", "b1", "c3", "b3"], self.moves)
@@ -205,6 +208,8 @@ class Lasting(Pages):
         browser.ready()
         self.soon([], self.moves)
         self.assertEqual(1, len({str(place) for place in places}))
+        box = "return document.querySelector(arguments[0]).getBoundingClientRect().toJSON()"
+        self.assertLessEqual(browser.run(box, "#board")["bottom"], browser.run(box, ".bar")["top"])
 
     def test_keys(self):
         browser = self.start("5,c3,b3,d2,a1")
