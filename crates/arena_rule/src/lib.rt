@@ -13,12 +13,12 @@
 //! whose view fits.
 //!
 //! **What is proved.** Each step that fits keeps the rule, and its answer is one that the step may
-//! give ([`steps`]); a split and a join keep it ([`splits`], [`joins`]); it holds of the opening
-//! words ([`begins`]); so it holds along every run ([`runs`]). The adds of a walk are those of the
-//! exact counts ([`adds_are_exact`]), and the counts are those of the records and of the adds in
-//! flight ([`counts_are_of_records`]). If one seat is left and all workers have ended, the tree is
-//! closed ([`closes`]). A view stays in order ([`views_stay_in_order`]), what a seat knows is never
-//! false later ([`known_blocks_stay`]), and a held block is named by no link
+//! give ([`steps`]). A split and a join keep it ([`splits`], [`joins`]), and it holds of the
+//! opening words ([`begins`]). So it holds along every run ([`runs`]). The adds of a walk are those
+//! of the exact counts ([`adds_are_exact`]), and the counts are those of the records and of the
+//! adds in flight ([`counts_are_of_records`]). If one seat is left and all workers have ended, the
+//! tree is closed ([`closes`]). A view stays in order ([`views_stay_in_order`]), what a seat knows
+//! is never false later ([`known_blocks_stay`]), and a held block is named by no link
 //! ([`held_blocks_are_unnamed`]).
 //!
 //! **What is only tested, or not said.** No law says which schedule happens, that a

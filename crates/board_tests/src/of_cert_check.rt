@@ -35,7 +35,7 @@ fn edge_entry(report: &Report) -> Option<u32>
     None
 }
 
-// A certificate of the first semi entry between the edges; `None` where there is no such entry or
+// A certificate of the first semi entry between the edges; `None` if there is no such entry or
 // no memory.
 fn edge_cert(alloc: Global, report: &Report) -> Option<Cert>
     ensures { IfSome result IsWritable }

@@ -65,7 +65,7 @@ fn grid_of(board: &Board, colour: Colour) -> [[bool; MOST]; MOST] {
     grid
 }
 
-// Whether a cell of the grid is set, where it lies within the board.
+// Whether a cell of the grid is set, if it lies within the board.
 fn is_set(grid: &[[bool; MOST]; MOST], column: usize, row: usize) -> bool {
     column < MOST && row < MOST && grid[row][column]
 }

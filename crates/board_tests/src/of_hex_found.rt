@@ -97,7 +97,7 @@ fn texts_are_compared(rt: HostRuntime) {
     }
 }
 
-// What is sought on size 4 after d1, where more than one position has to be entered.
+// What is sought on size 4 after d1. More than one position has to be entered.
 pub(crate) fn sought(rt: &impl Abort, alloc: Global, budget: u64) -> Sought {
     let Ok(sought) = seek(
         alloc,

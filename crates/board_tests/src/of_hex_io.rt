@@ -59,7 +59,7 @@ fn writes_in_pieces(rt: HostRuntime) -> Result<(), AllocError> {
     Ok(())
 }
 
-// In pieces of two bytes, where write number 2 fails.
+// In pieces of two bytes, and write number 2 fails.
 #[test]
 fn gives_all_or_a_front(rt: HostRuntime) -> Result<(), Fail> {
     let alloc = rt.alloc();

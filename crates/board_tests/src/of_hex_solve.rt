@@ -1,5 +1,5 @@
 //! The solver from end to end: who wins small boards by which claim, the checker's word on each
-//! certificate, and what is spent where it is unknown.
+//! certificate, and what is spent if it is unknown.
 
 use super::of_hex_found::sought;
 use super::of_hsearch::board_of;

@@ -107,7 +107,7 @@ fn is_true(pair: &Pair, kind: Kind, stones: CellSet, carrier: CellSet, fuel: u32
     is_sure
 }
 
-// Whether the player wins where `mover` places next, by a search of the whole game.
+// Whether the player wins if `mover` places next, by a search of the whole game.
 fn wins(board: &Board, player: Colour, mover: Colour, fuel: u32) -> bool {
     if board.joined(player) {
         return true;

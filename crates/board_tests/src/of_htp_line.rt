@@ -67,7 +67,7 @@ fn reads_lines(rt: HostRuntime) -> Result<(), AllocError> {
     Ok(())
 }
 
-/// A raw line and a bar; `long` where it is too long.
+/// A raw line and a bar; `long` if it is too long.
 fn push_line(out: &mut Vec<u8>, line: Option<&[u8]>) -> Result<(), AllocError> {
     out.extend_from_slice(line.unwrap_or(b"long"))?;
     out.push(b'|')?;

@@ -24,7 +24,7 @@ const V3: &[u8] = b"hexcert 2\nsize 2\nplayer black\nblack\nwhite\n\
 // The five lines of a head of version 2 with stones.
 const HEAD: &[u8] = b"hexcert 2\nsize 11\nplayer white\nblack a1 k11\nwhite b1 a2\n";
 
-// The text that is written of what is read, where it is raised first or not.
+// The text that is written of what is read, raised first or not.
 fn rewritten(alloc: Global, text: &[u8], raised: bool) -> Result<Vec<u8>, Fail> {
     let Ok(cert) = read(alloc, text) else {
         return Err("a certificate".into());

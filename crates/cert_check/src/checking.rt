@@ -15,7 +15,7 @@ use std::alloc::Global;
 use win_cert::{Cert, Verdict, accepted_certificates_win};
 
 /// Checks a certificate that can be written: whether it is accepted. If it is, the player wins as
-/// it claims; else the verdict names the first line against which there is a reason, the claim
+/// it claims. Else the verdict names the first line against which there is a reason, the claim
 /// being the last, and the first reason in the order 1, 11, 12, 2 to 10, 13. The only refusal is
 /// that memory runs out, which may come at any certificate.
 pub fn check(alloc: Global, cert: &Cert) -> Result<Verdict, Memory>

@@ -32,8 +32,8 @@ pub fn truth_goes_on()
 {}
 
 /// The law of the edges. On a board with the player's stones or more, a player who is sure of
-/// linking his edges wins: with the opponent to move if he is sure though the opponent places
-/// first, and with himself to move if he is sure when he places first. It does nothing.
+/// linking his edges wins. He does with the opponent to move if he is sure though the opponent
+/// places first, and with himself to move if he is sure when he places first. It does nothing.
 pub fn connected_edges_win()
     ensures full { (e : PlayerBoard) (p : Position) (c : ℕ)
         → IsSureOfEdges Kind.Full e p c → Wins e.player p (other_of e.player) }

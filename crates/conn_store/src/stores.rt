@@ -91,8 +91,7 @@ impl Store {
         Put::Added(self.append(entry, held))
     }
 
-    // Puts the entry at the end, where its pair has these numbers of its kind, and answers its
-    // number.
+    // Puts the entry, of whose kind its pair has these numbers, at the end, and answers its number.
     fn append(&mut self, entry: Entry, held: Held) -> u32
         requires valid { IsValid self.old.elements entry }
         requires follows { FollowsFrom self.old.elements self.old.entries entry }

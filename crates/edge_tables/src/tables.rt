@@ -20,7 +20,7 @@ pub struct Key {
 /// How an entry came.
 #[derive(Clone, Copy, Debug, PartialEq, Eq)]
 pub enum Origin {
-    /// It is in the player's report where he has these stones, the cells of this set are empty, and
+    /// It is in the player's report if he has these stones, the cells of this set are empty, and
     /// the opponent has all others.
     Cut(CellSet),
     /// By the player's stone on the cell.

@@ -26,8 +26,8 @@ pub fn wins_go_on()
 {}
 
 /// The laws of elements: two cells of one element are one cell, or stones that are linked, or
-/// stones that are tied to edges of one element; a stone that is tied to an edge is in that edge's
-/// element; linked stones are in one element. It does nothing.
+/// stones that are tied to edges of one element. A stone that is tied to an edge is in that edge's
+/// element. Linked stones are in one element. It does nothing.
 pub fn one_element_is_a_group()
     ensures together { (e : PlayerBoard) (x a b : ℕ)
         → Within e.board.size (stones_of e.board e.player)

@@ -13,7 +13,7 @@
 //! **What is proved.** `joined` answers yes exactly if there is a path of stones between the edges,
 //! and equals `is_joined`, a plain search of paths that callers may define things by
 //! ([`joined_is_decided`]). A board is told apart by its `Position`. The elements are those of the
-//! definitions in specs/Elements.antt, where an element's number is a count of least cells; what
+//! definitions in specs/Elements.antt, where an element's number is a count of least cells. What
 //! lies near is said in specs/Places.antt, where a place is a cell or an edge, and by the test
 //! `is_near` ([`near_is_decided`]). `Wins`, who wins if both play on, is a definition for the
 //! crates above, with its laws ([`wins_go_on`]).

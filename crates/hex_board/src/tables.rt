@@ -15,8 +15,8 @@ use hex_cells::{Cell, CellSet, Colour};
 use std::marker::Model;
 
 /// The elements of a player on a board: each empty cell by itself, and the groups. A group is a
-/// connected part of the player's stones and his two edges, where stones are linked as neighbours
-/// and a stone on an edge is linked to that edge. Element 0 holds the first edge, and the second
+/// connected part of the player's stones and his two edges: neighbours are linked, and a stone on
+/// an edge is linked to that edge. Element 0 holds the first edge, and the second
 /// edge is in element 1, or in element 0 if the player is joined. The others follow in rising
 /// order of their least cells. There are at most [`MOST_ELEMENTS`].
 ///

@@ -28,8 +28,8 @@ impl CellSet {
     }
 }
 
-/// The neighbours of a cell of the board: the cells of the board at (c+1, r), (c-1, r), (c, r+1),
-/// (c, r-1), (c+1, r-1) and (c-1, r+1), where (c, r) is its column and row.
+/// The neighbours of a cell of the board, in column c and row r: the cells of the board at
+/// (c+1, r), (c-1, r), (c, r+1), (c, r-1), (c+1, r-1) and (c-1, r+1).
 pub fn neighbours(cell: Cell, size: Size) -> CellSet
     requires { cell < size * size }
     ensures graph { (d : ℕ) → IsTrue (has result d) ↔ Neighbour size cell d }

@@ -9,9 +9,9 @@
 //! and goes over a set by [`CellSet::least`] and [`CellSet::without`], or picks from it by
 //! [`CellSet::nth`].
 //!
-//! **What is proved.** Each set operation for every cell, the number of a set, which callers
-//! compare as data, the neighbours and edges as the rules of the game have them in columns and
-//! rows, vertices both ways, a colour's word, and the decimal of a number.
+//! **What is proved.** Each set operation for every cell, and the number of a set, which callers
+//! compare as data. The neighbours and edges as the rules of the game have them in columns and
+//! rows. Vertices both ways, a colour's word, and the decimal of a number.
 //!
 //! **What is only tested, or not said.** Speed, and what the derived `Debug` prints.
 //!

@@ -22,8 +22,8 @@
 //!   lines taken were answered before the next read, and no read that was answered follows an
 //!   answered `quit`. With status 5 the lines that were answered used up all that was used up, so
 //!   no turn is thrown away.
-//! - Each generated move of a run that is done is legal; its turn is for the board of the game
-//!   before, and stands at its place in the archive; if it is certified it wins against every
+//! - Each generated move of a run that is done is legal. Its turn is for the board of the game
+//!   before, and stands at its place in the archive. If it is certified it wins against every
 //!   reply, and otherwise it is the best of its closed tree (specs/Headline.antt).
 //! - Each turn that was used up is good; a move outside the carrier of one of its threats loses,
 //!   and if its plan says that the board is lost each move does (specs/Playing.antt).
@@ -56,16 +56,16 @@
 //! - There are three kinds of mode (`ModeKind`). What is done, and what isn't used, is one relation
 //!   by kind, behind private clauses; `run` has a clause for each mode, and two on what isn't used.
 //!   So a mode has one line that says its kind, and what follows of its kind is proved once.
-//! - The clauses of the modes speak of one record, the words, the status and what the devices hold
-//!   before and after (`RunData`), and `InMode` says once for which words and which end: so a mode
-//!   is one relation that can be read aloud.
+//! - The clauses of the modes speak of one record (`RunData`): the words, the status and what the
+//!   devices hold before and after. `InMode` says once for which words and which end. So a mode is
+//!   one relation that can be read aloud.
 //! - The headline names a plan's two forms and not what a plan is (`IsGeneratedMove`,
 //!   `WinsOrIsBest`), so who asks about searched moves reads nothing of connections. `good_turns`
 //!   and `threats` are clauses of their own for the same reason. Each clause of mode `htp` but
 //!   `determined` says of a list of loads and turns that the session used up just this (`PlaysBy`).
 //!   An archive that tells fixes the turns; one that doesn't leaves each clause its own list.
-//! - The mover of mode `solve` is the other of who made the last step, and Black before any: never
-//!   by the count of stones, since a record may set stones up, a swap changes no count, and a
+//! - The mover of mode `solve` is the other of who made the last step, and Black before any. The
+//!   count of stones doesn't tell him: a record may set stones up, a swap changes no count, and a
 //!   player may move twice. A decided board is answered by `over`. What is said of a position is
 //!   any answer that meets the solver's clauses (`IsSolved`), so it names no order of the search.
 //! - A body that goes on after a fault and answers that fault's status at the end meets the clauses

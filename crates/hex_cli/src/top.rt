@@ -36,10 +36,10 @@ use std::thread::Threads;
 /// The words are those of the command line after the program's name. In mode `htp` each raw line of
 /// the input is answered, by GTP version 2, from an empty board of the size that the words say. The
 /// shelf has the files of `loadsgf`, and the archive takes the turn of each `genmove`. Modes
-/// `check`, `migrate`, `audit` and `solve` take the whole input and give one text for it: the
-/// verdict on a certificate, the certificate in its latest version, the verdict on traces of closed
-/// trees, or who wins the position of a record. Modes `sim` and `bench` read nothing: they search
-/// one position, hand the turn to the archive, and give one text that says it.
+/// `check`, `migrate`, `audit` and `solve` take the whole input and give one text for it. That is
+/// the verdict on a certificate, the certificate in its latest version, the verdict on traces of
+/// closed trees, or who wins the position of a record. Modes `sim` and `bench` read nothing: they
+/// search one position, hand the turn to the archive, and give one text that says it.
 ///
 /// Searches run in threads of the devices' runtime, and their workers pass their gate; no clause
 /// speaks of these.

@@ -7,10 +7,10 @@
 //! each `genmove`. The other commands are *quiet*: they use nothing up.
 //!
 //! **A caller** makes an [`Engine`] on a board's size, with the options of its turns, and hands it
-//! the requests one by one, with the runtime and the gate of its searches, a shelf that has the
-//! files and an archive that takes the turns:
-//! `engine.line(rt, &request, &mut shelf, &mut archive, &gate)`. One that uses nothing up is
-//! answered by `engine.quiet_line(&request)` too, which takes none of these.
+//! the requests one by one. With each go the runtime and the gate of its searches, a shelf that has
+//! the files and an archive that takes the turns: `engine.line(rt, &request, &mut shelf, &mut
+//! archive, &gate)`. One that uses nothing up is answered by `engine.quiet_line(&request)` too,
+//! which takes none of these.
 //!
 //! **What is proved.** The reply and what stands after it are a function of what stood before, of
 //! what was used up, and of the request (specs/Requests.antt). Each load is what the shelf's fetch

@@ -41,7 +41,7 @@ fn push_line(text: &mut Vec<u8>, board: &Board, row: u32) -> Result<(), AllocErr
     requires { row < board.now.size }
     ensures { OnOk result (text.new.items ≡ text.old.items ++ 10 ∷ row_line board.now row) }
 {
-    // What each board keeps of itself.
+    // Brings what the type keeps into scope.
     let _size = board.size();
     text.push(b'\n')?;
     push_spaces(text, row)?;

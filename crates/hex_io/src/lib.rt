@@ -14,7 +14,7 @@
 //!
 //! ```text
 //! let count = link.read(&mut buffer)?;      // 0 only at the end
-//! give(link, answer)?;                      // all of it, or a front of it at a fault
+//! give(link, answer)?;                      // all of it, or a prefix at a fault
 //! let file = shelf.fetch(alloc, "game.sgf")?; // `None` if there is no such file
 //! report(errors, b"hexd: read fault\n");    // whatever comes of it
 //! ```

@@ -29,7 +29,7 @@ pub trait Link {
         ensures cause { HasCause (read_faults self.old) (read_faults self.new) result }
         ensures writes { write_faults self.new ≡ write_faults self.old };
 
-    /// Gives bytes from the front of `bytes`, which is not empty, and answers how many: at least 1.
+    /// Gives a prefix of `bytes`, which is not empty, and answers how long it is: at least 1.
     ///
     /// A device that takes none of them is at fault. At a fault no byte was given.
     fn write(&mut self, bytes: &[u8]) -> Result<usize, LinkFault>

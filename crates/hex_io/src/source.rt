@@ -1,4 +1,4 @@
-//! Bytes that are read from the front.
+//! Bytes that are read from the first one on.
 
 ghost use Rattle.std.specs.Prelude.{◌≡◌, ◌+◌, ◌-◌, ◌≤◌, ◌++◌, take, drop, length, vec_len};
 

@@ -115,7 +115,7 @@ impl Link for ErrLink {
     }
 }
 
-/// Gives bytes from the front of `bytes` to a stream. One that takes none of them is at fault too.
+/// Gives a prefix of `bytes` to a stream. One that takes none of them is at fault too.
 pub(crate) fn write_once<W: Write>(
     output: &mut W,
     faults: &mut u64,

@@ -40,8 +40,8 @@ pub fn lost_boards_lose()
         → LosesWhereLost t }
 {}
 
-/// A law, with nothing to run: with one worker, if no connections are looked for, the report of a
-/// good turn is that of the sequential search, and the knobs, the board, the player and the number
+/// A law, with nothing to run, of one worker if no connections are looked for. The report of a good
+/// turn is that of the sequential search, and the knobs, the board, the player and the number
 /// determine the turn's cell, its report and its texts.
 pub fn one_worker_decides()
     ensures report { (knobs : Knobs) (t : TurnData) → knobs.workers ≡ 1 →

@@ -46,7 +46,7 @@
 //!   [`NoArchive`] never.
 //!
 //! **What is only tested, or not said.** That [`plan`], [`turn_texts`] and `MemArchive::make` get
-//! their memory; which entry a certificate is cut from where several would serve; that a report
+//! their memory; which entry a certificate is cut from if several would serve; that a report
 //! has a connection that exists; what becomes of turns in [`NoArchive`].
 //!
 //! **Limits.** A count of faults stands still at the greatest value of a `u64`. [`plan`] and

@@ -1,5 +1,5 @@
-//! How near each cell lies to a shortest way between a player's edges, where each full entry is a
-//! step and a cell between two steps has to be taken.
+//! How near each cell lies to a shortest way between a player's edges. Each full entry is a step,
+//! and a cell between two steps has to be taken.
 
 use conn_store::{Entry, Kind, Store};
 use edge_tables::value_at;

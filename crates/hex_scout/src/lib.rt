@@ -12,8 +12,8 @@
 //! **How it goes.** A round goes from the root to a state that is new, always to the cell with the
 //! least disproof number, and makes the mover's report there, in which a semi entry ends it, and
 //! otherwise the other's. A state is decided by a semi entry of the mover whose carrier is empty,
-//! by a full one of the other's, if no reply is left (the other's semi entries are the cases of a
-//! full one), or by a reply after which the mover has a full entry.
+//! by a full one of the other's, if no reply is left, or by a reply after which the mover has a
+//! full entry. If no reply is left, the other's semi entries are the cases of a full one.
 //!
 //! **What is proved.** That each call is safe and ends, and that no more states are counted as
 //! entered than the budget has. Of who wins nothing is said: `hex_found` makes certificates of what

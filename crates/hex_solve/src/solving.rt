@@ -26,13 +26,13 @@ use win_cert::{Cert, accepted_certificates_win, cut, edge_numbers, raise};
 /// With `hsearch` it first asks for the mover's report: a semi entry between his edges is a win.
 /// Otherwise a search with connections looks for a certificate, which enters at most `budget`
 /// positions. If that finds none, and without `hsearch`, a search goes depth first and tries the
-/// cells in rising order, up to the first that wins; it enters at most `budget` positions, each as
+/// cells in rising order, up to the first that wins. It enters at most `budget` positions, each as
 /// often as a list of moves leads to it.
 ///
-/// It answers the winner with a certificate of the latest version, that the budget is spent, the
-/// winner with the number of lines if the certificate of the search without connections has too
-/// many, or a full board on which nobody is joined, if there is one. It refuses only if memory runs
-/// out.
+/// It answers the winner with a certificate of the latest version, or with the number of lines if
+/// the certificate of the search without connections has too many. Or it answers that the budget is
+/// spent, or a full board on which nobody is joined, if there is one. It refuses only if memory
+/// runs out.
 pub fn solve(
     alloc: Global,
     board: &Board,

@@ -1,5 +1,5 @@
 //! The options of hexd, a line each. The code and the definitions of specs/Table.antt and
-//! specs/Values.antt read them here; laws.rt says what stands in them, and tools/check_install
+//! specs/Values.antt read them here; laws.rt says what stands in them, and tools/check_manual
 //! compares the documents with them.
 
 use hex_cells::Size;

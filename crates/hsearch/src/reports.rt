@@ -31,9 +31,9 @@ impl Model for Report {
     ghost invariant = { λ r. IsReport r.store };
 }
 
-/// The report of a player on a board, by H-search: it begins with the pairs that lie side by side,
-/// takes each entry once, those with the smallest carriers first, and adds what follows from it
-/// and those that were taken before.
+/// The report of a player on a board, by H-search. It begins with the pairs that lie side by side,
+/// takes each entry once, those with the smallest carriers first, and adds what follows from it and
+/// those that were taken before.
 ///
 /// It refuses only if memory runs out.
 pub fn connect(alloc: Global, board: &Board, colour: Colour) -> Result<Report, Memory>

@@ -27,7 +27,7 @@ pub fn id_text(alloc: Global, id: Option<u32>) -> Result<Vec<u8>, Memory>
 }
 
 /// Writes a success at the end of `out`: `=`, the id in its shortest form if there is one, a space,
-/// the text and two line feeds. It can't fail where there is room for it. GTP version 2, responses.
+/// the text and two line feeds. It can't fail if there is room for it. GTP version 2, responses.
 pub fn push_success(out: &mut Vec<u8>, id: &[u8], text: &[u8]) -> Result<(), Memory>
     requires short { length id.now ≤ ID_LIMIT }
     ensures text { WritesFor id.now (λ n. success n text.now) out.old.items out.new.items result }
@@ -38,7 +38,7 @@ pub fn push_success(out: &mut Vec<u8>, id: &[u8], text: &[u8]) -> Result<(), Mem
 }
 
 /// Writes a failure at the end of `out`: `?`, the id in its shortest form if there is one, a space,
-/// the message and two line feeds. It can't fail where there is room for it. GTP version 2,
+/// the message and two line feeds. It can't fail if there is room for it. GTP version 2,
 /// responses.
 pub fn push_failure(out: &mut Vec<u8>, id: &[u8], text: &[u8]) -> Result<(), Memory>
     requires short { length id.now ≤ ID_LIMIT }

@@ -99,7 +99,7 @@ impl Splitter {
         }
     }
 
-    /// Ends the last line, as a line feed would, where bytes stand after the last line feed. It
+    /// Ends the last line, as a line feed would, if bytes stand after the last line feed. It
     /// says whether one did.
     pub fn finish(&mut self) -> bool
         ensures line { self.new ≡ after_end self.old }

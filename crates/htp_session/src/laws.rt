@@ -12,18 +12,18 @@ pub fn more_left_is_not_used()
 {}
 
 /// With one worker a talk is determined by the lines, the options and what came of the files,
-/// whatever good turns its moves used up: two talks that were answered say the same and stand at
-/// the same then, the last turn's texts too, and two that are through are the same in all.
+/// whatever good turns its moves used up. Two talks that were answered say the same and stand at
+/// the same then, the last turn's texts too. Two that are through are the same in all.
 pub fn one_worker_is_determined()
     ensures answered { AnsweredAlike ServesAlike }
     ensures through { ThroughAlike ServesAlike }
 {}
 
 /// With one worker and a told shelf a talk is determined by the lines, the options, the files and
-/// which fetches were at fault: what came of the files need not be given, for bytes are a record of
+/// which fetches were at fault. What came of the files need not be given, for bytes are a record of
 /// one game at most. Two talks whose loads came of these files and faults, and whose turns are
-/// good, say the same and stand at the same then, if they were answered; if they are through,
-/// they are the same in all.
+/// good, say the same and stand at the same then, if they were answered; if they are through, they
+/// are the same in all.
 pub fn one_worker_and_one_shelf_determine()
     ensures answered { (files : List File) → (tries : List Bool) →
         AnsweredAlike (ServesAlikeFrom files tries) }

@@ -72,7 +72,7 @@ impl Session {
         respond(alloc, &mut self.engine, devices, raw, &mut self.out)
     }
 
-    /// Takes up to one line off the front of the piece, and answers it after what is held.
+    /// Takes up to one line off the beginning of the piece, and answers it after what is held.
     fn advance<L: Link, F: Shelf, A: Archive, R: Threads + Sync, G: Gate + Sync>(
         &mut self,
         alloc: Global,

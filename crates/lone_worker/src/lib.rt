@@ -3,10 +3,10 @@
 //! This crate is that law and no more: it has no type and no code that runs, and its one function
 //! does nothing. search_team and sim_run, whose workers run, cite it.
 //!
-//! **Nouns.** A walker *runs alone* if it began as a new walker with a copy of the opening
-//! words, whatever else its view knew, and each of its steps was answered as the step may be, and
-//! so with the word that stands in the copy (specs/Alone.antt). It *is done* if its next step is
-//! Done.
+//! **Nouns.** A walker *runs alone* if it began as a new walker with a copy of the opening words,
+//! whatever else its view knew, and each of its steps was answered as the step may be. So it was
+//! answered with the word that stands in the copy (specs/Alone.antt). It *is done* if its next step
+//! is Done.
 //!
 //! **A caller** makes no value here: it cites the law, and keeps in its loop that its walker has
 //! run alone. One step more is one number more.
@@ -18,13 +18,12 @@
 //! NEXT, TICKET and the records, are bound by the arena rule alone.
 //!
 //! **How it is proved.** Steps are not played after one by one. By the rule all counts are a
-//! function of the linked blocks and the recorded walks, so between two steps a search is the
+//! function of the linked blocks and the recorded walks. So between two steps a search is the
 //! blocks, the walks and NEXT, and most steps leave all three: a Claim changes NEXT, a Publish adds
 //! a block, a Note adds a walk (proofs/Courses.antt). As the loads agree with these counts, the
 //! choices that a walk made lead to the leaf of the sequential walk (proofs/Ways.antt,
-//! proofs/Chosen.antt); there alone it claims and publishes (proofs/Walkers.antt), once a walk
-//! (proofs/Leaves.antt); and what its Note adds is what the sequential walk adds
-//! (proofs/Walked.antt).
+//! proofs/Chosen.antt). There alone it claims and publishes (proofs/Walkers.antt), once a walk
+//! (proofs/Leaves.antt). What its Note adds is what the sequential walk adds (proofs/Walked.antt).
 //!
 //! **Limits.** None of its own. It takes no memory and no handle.
 //!

@@ -33,8 +33,8 @@
 //! **Why so.**
 //!
 //! - A half of the games gets every other one, so that games 0 and 1 are the first of two halves in
-//!   every setting: games that take unequally long are shared out, and the test with a gate holds
-//!   for any numbers of games and threads.
+//!   every setting. So games that take unequally long are shared out, and the test with a gate
+//!   holds for any numbers of games and threads.
 //! - The match game is a relation between a number and a game, as a good turn is; that it
 //!   determines the game is a law of its own.
 //! - The record of a game is made from a game that takes its steps again on the empty board. An

@@ -1,5 +1,5 @@
 //! The options of hexmatch, a line each. The code and the definitions of specs/MatchTable.antt and
-//! specs/MatchWords.antt read them here, and tools/check_install compares the documents with them.
+//! specs/MatchWords.antt read them here, and tools/check_manual compares the documents with them.
 
 use super::settings::{MOST_GAMES, MOST_THREADS};
 use hex_cells::Size;

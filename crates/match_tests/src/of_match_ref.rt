@@ -14,7 +14,7 @@ use std::sync::atomic::{AtomicU32, Ordering};
 use std::test::Fail;
 use std::thread::{self, Threads};
 
-// A match of so many games of one stone in so many threads, where they are in their ranges.
+// A match of so many games of one stone in so many threads, if they are in their ranges.
 fn small_match(games: u32, threads: u32) -> Option<Match>
     ensures { IfSome result IsMatch }
 {

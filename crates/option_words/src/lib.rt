@@ -19,9 +19,9 @@
 //! ```
 //!
 //! **What is proved.** [`find`] finds something only if the words are a line of the form, `IsLine`
-//! of `specs/Lines.antt`, and in every line but one whose positional word is a hyphen alone; and
-//! what it finds of a name is what the line says, or the default. That definition and the grammar
-//! that it stands on, `specs/Grammar.antt`, do not speak of `clap`, which reads the words here;
+//! of `specs/Lines.antt`, and in every line but one whose positional word is a hyphen alone. What
+//! it finds of a name is what the line says, or the default. That definition and the grammar that
+//! it stands on, `specs/Grammar.antt`, do not speak of `clap`, which reads the words here;
 //! [`clap_reads_lines`] is the law that both say the same. Numbers are read by this crate: `clap`
 //! takes a plus sign and more than twenty digits.
 //!

@@ -33,7 +33,7 @@
 //! - Empty cells are listed by fours, from a table of the bits of each number below 16: a third
 //!   less work on the largest board than cell by cell.
 //! - How even the shuffle is (how near to uniform): `word * (i + 1) / 2^64` takes each of `i + 1`
-//!   places for equally many words but for one, so with at most 121 cells no place is likelier than
+//!   places for equally many words but for one. So with at most 121 cells no place is likelier than
 //!   another by 2^-57 of its share, if the words are uniform.
 #![tactic(auto)]
 

@@ -31,9 +31,9 @@
 //!
 //! - One worker shares the words with nobody: `search` hands over to the sequential definition's
 //!   program, which makes no atomic operation and copies nothing back. A lone walker on the table
-//!   makes the same tree, as `work` promises, and a test compares the two. A trait by which the
-//!   walker's loops step on a table or on a vector was the other way: a plain vector has no view of
-//!   a seat, so each loop's contract would have spoken of all views that the words may have.
+//!   makes the same tree, as `work` promises, and a test compares the two. The other way was a
+//!   trait by which the walker's loops step on a table or on a vector. A plain vector has no view
+//!   of a seat, so each loop's contract would have spoken of all views that the words may have.
 //! - The area is cut before a search, since most of a short search's time went into clearing words
 //!   that it never used. How many a search can use is counted in one function (`first_words`) and
 //!   not proved: if that is too low, the search is made again with all words. What no claim reached

@@ -72,7 +72,7 @@ fn search_whole<R: Threads + Sync, G: Gate + Sync>(
     ensures next { shape.now.knobs.workers ≡ 1
         → IfOk result (λ closed. next_in closed.words ≡ (seq_of shape.now).1) }
 {
-    // What each shape keeps of itself.
+    // Brings the ranges of the knobs into scope, too.
     let workers = shape.knobs().workers;
     if workers == 1 {
         return search_alone(alloc, shape, gate);

@@ -1,4 +1,4 @@
-//! The seeds of turns, and where no turn is made. What is planned is shown by whole sessions, rows
+//! The seeds of turns, and when no turn is made. What is planned is shown by whole sessions, rows
 //! of session_tests.
 
 ghost use Rattle.std.specs.Prelude.{IfSome};

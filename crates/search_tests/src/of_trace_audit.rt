@@ -98,7 +98,7 @@ fn writes_the_trace_of_each_turn(rt: HostRuntime) -> Result<(), Fail> {
     Ok(())
 }
 
-// There is room for so many bytes: a front of the trace is given, and the archive is at fault.
+// There is room for so many bytes: a prefix of the trace is given, and the archive is at fault.
 #[test]
 fn a_write_that_fails_leaves_a_front(rt: HostRuntime) -> Result<(), Fail> {
     let alloc = rt.alloc();
@@ -196,8 +196,8 @@ fn each_flaw_is_found(rt: HostRuntime) -> Result<(), Fail> {
     Ok(())
 }
 
-// The words behind the name of a tree of two playouts on the empty board of size 2, where Black may
-// play a1 alone: both went to a1; White won the first, and Black the second.
+// The words behind the name of a tree of two playouts on the empty board of size 2, on which Black
+// may play a1 alone: both went to a1; White won the first, and Black the second.
 const TWO_PLAYOUTS: [u64; 31] = [
     2, 0, 0, 0, 0, 0, 1, 0, 1, 2, 0, 65536, 8, 180, 16, 16, 2, 25, 24, 0, 8, 8589934593, 0, 4, 15,
     0, 1, 0, 0, 8589934593, 8589934593,

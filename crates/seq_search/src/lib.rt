@@ -4,16 +4,16 @@
 //! **Nouns.** A *walk* goes from the root down to a *leaf*, a node without a block: at each node
 //! with a block to the child that Choice takes. If the leaf has as many visits as the expand number
 //! says, an empty cell on its board and room in the area, it gets its block first, and the walk
-//! goes on to a child. Then comes the *playout* from the leaf's board, and its *adds*: to the tally
-//! of each node on the way, to the seen word of each node of their blocks whose cell holds a stone
-//! of its mover, and the playout's record.
+//! goes on to a child. Then comes the *playout* from the leaf's board, and its *adds*, of which one
+//! is the playout's record. The others go to the tally of each node on the way, and to the seen
+//! word of each node of their blocks whose cell holds a stone of its mover.
 //!
 //! A [`Gate`] is what a worker passes once, between its first looks and its first add.
 //!
 //! **A caller** makes a `Shape` and calls [`search_alone`] with a gate, or [`plain_search`]:
 //! `plain_search(rt.alloc(), &shape)?`.
 //!
-//! **What is proved.** The answer has this shape, it is a closed tree, as its type keeps, and the
+//! **What is proved.** The answer has this shape, and it is a closed tree, as its type keeps. The
 //! tree that its words show is that of the sequential search: the fold of one walk over all playout
 //! numbers, which has no words, links or blocks. The only refusal is `Memory`.
 //!

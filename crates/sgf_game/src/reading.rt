@@ -25,9 +25,9 @@ use std::alloc::Global;
 /// - Otherwise `BadSize` comes exactly if the root has SZ, and the first value is neither a number
 ///   from 1 to 11 without leading zero nor two equal such numbers with `:` between. Without SZ the
 ///   size is 11.
-/// - Otherwise `BadSetup` comes exactly if a node of the line behind the root has AB, AW or AE, or
-///   the root has AE; or if a value of the root's AB or AW is no vertex of the board, or two of
-///   them name one cell. They are the start stones.
+/// - Otherwise `BadSetup` comes exactly if the root has AE, if a node of the line behind it has AB,
+///   AW or AE, or if the start stones are wrong. These are the values of the root's AB and AW: one
+///   is no vertex of the board, or two of them name one cell.
 /// - Otherwise `BadMove` comes exactly if a move is refused, with the first such. The moves are the
 ///   values of B and W along the line, counted from 0, also those in the root. Refused is what is
 ///   neither a vertex of the board nor `swap-pieces`, `resign` or `forfeit`, in either case; what

@@ -30,7 +30,7 @@ pub fn read_game(alloc: Global, bytes: &[u8]) -> Result<Option<Game>, AllocError
 }
 
 /// The text of the game's record (SGF FF[4]), without white space between tokens: what
-/// [`from_game`] makes, printed. Want of memory is the only refusal.
+/// [`from_game`] makes, printed. It refuses only if memory runs out.
 pub fn game_text(alloc: Global, game: &Game) -> Result<Bytes, Memory>
     ensures text { IfOk result (λ bytes. bytes ≡ trees_print (record_of game.now)) }
     // So it is read again as the same game.

@@ -7,7 +7,7 @@ ghost use Rattle.sgf_game.specs.Values.{first_named};
 
 use sgf_tree::{Bytes, Node, Prop, is_white_space};
 
-/// The text without the white space at its front.
+/// The text without the white space with which it begins.
 fn without_front_space(text: &[u8]) -> &[u8]
     ensures { result.now ≡ without_front_space text.now }
 {

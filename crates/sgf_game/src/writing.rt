@@ -19,7 +19,7 @@ use std::alloc::{AllocError, Global};
 /// The record of a game: one tree without kids. Its root has `FF[4]`, `GM[11]`, SZ with the size,
 /// and AB and AW with the start stones of Black and of White, cells in rising order, each only if
 /// there are such stones. A node follows for each step, with B or W and the vertex in lower case,
-/// or `swap-pieces`. Want of memory is the only refusal.
+/// or `swap-pieces`. It refuses only if memory runs out.
 pub fn from_game(alloc: Global, game: &Game) -> Result<Collection, Memory>
     ensures record_is { IfOk result (λ c. c.trees ≡ record_of game.now) }
     // Its game is the game.

@@ -14,7 +14,7 @@ use std::alloc::{AllocError, Global};
 
 /// Prints a collection: its text without white space between tokens, in which exactly the bytes
 /// `]` and backslash of a value have a backslash before them. The recursion goes as deep as the
-/// trees nest. Want of memory is the only refusal.
+/// trees nest. It refuses only if memory runs out.
 pub fn print(alloc: Global, collection: &Collection) -> Result<Bytes, Memory>
     requires shallow { depth collection.now.trees ≤ max_depth }
     requires text { HasText collection.now.trees }

@@ -9,7 +9,7 @@
 //!
 //! **What is proved.** The tree is closed and of this shape, for every schedule, and with one
 //! worker it is the tree of the sequential search. It is the tree of this very schedule: from the
-//! opening words and new walkers on, each entry is one step of the walker with its number, and then
+//! opening words and new walkers on, each entry is one step of the walker with its number. Then
 //! come rounds, in each a step of each walker by rising number, until none has a step left
 //! (specs/Steps.antt, specs/BetweenSteps.antt). A number that no worker has is refused with its
 //! first place, before anything is simulated, and it refuses otherwise only if memory runs out.

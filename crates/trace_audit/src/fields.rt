@@ -1,4 +1,4 @@
-//! The front of a text: its name and the fields that tell the shape.
+//! How a text begins: its name and the fields that tell the shape.
 
 ghost use Rattle.std.specs.Prelude.{◌≡◌, MatchOption};
 ghost use Rattle.hex_cells.specs.declared.colours.Colour.{Colour};

@@ -18,29 +18,29 @@
 //! text that is not that of a closed tree and its first [`types::Flaw`]. It makes each playout
 //! again and needs no search.
 //!
-//! **What is proved.** If the link tells what it was given, a turn that was taken gave it
-//! exactly its trace more. A fault comes only if the count of the link's writes at fault rose, and
-//! then it was given a prefix of the trace that is not all of it. What is read from the text of a
-//! closed tree is a closed tree again ([`traces_tell_closed_trees`]): the words that are not
-//! written count as 0. `audit` answers `Yes` only if the bytes are the texts of so many closed
-//! trees, one after another; and `No` only if behind the texts of so many closed trees stands a
-//! text that has the flaw and none before it: it is no text of a tree, no list of blocks is linked
-//! by its words, or such a list is and the point of the closed tree fails. Bytes have one verdict
+//! **What is proved.** If the link tells what it was given, a turn that was taken gave it exactly
+//! its trace more. A fault comes only if the count of the link's writes at fault rose, and then it
+//! was given a prefix of the trace that is not all of it. What is read from the text of a closed
+//! tree is a closed tree again ([`traces_tell_closed_trees`]): the words that are not written count
+//! as 0. `audit` answers `Yes` only if the bytes are the texts of so many closed trees, one after
+//! another. It answers `No` only if behind the texts of so many closed trees stands a text that has
+//! the flaw and none before it. It is then no text of a tree, no list of blocks is linked by its
+//! words, or such a list is and the point of the closed tree fails. Bytes have one verdict
 //! ([`bytes_have_one_verdict`]), so that `audit` answers `Yes` exactly if the bytes are the texts
 //! of closed trees.
 //!
 //! **What is only tested, or not said.** That the archive gets the memory for its buffer.
 //!
 //! **Limits.** `make` takes memory for a buffer of [`BUFFER_BYTES`] bytes, and `audit` for one text
-//! at a time: nine bytes for each word that the text has, and not for those that it claims, but
-//! for 1,024 of the area at least; and a site for each linked block. Its time goes with the words
-//! and the playouts of the texts, and not with the depth of their trees. An audit takes at most
-//! [`MOST_BYTES`] bytes. A trace has at most 128 bytes and eight for each word of the tree.
+//! at a time. That is nine bytes for each word that the text has, and not for those that it claims,
+//! but for 1,024 of the area at least; and a site for each linked block. Its time goes with the
+//! words and the playouts of the texts, and not with the depth of their trees. An audit takes at
+//! most [`MOST_BYTES`] bytes. A trace has at most 128 bytes and eight for each word of the tree.
 //!
 //! **Why so.**
 //!
 //! - The audit takes memory by the words that a text has. Behind these all words are 0, and no
-//!   point of the closed tree looks at one of them; so a text is audited as a tree whose area ends
+//!   point of the closed tree looks at one of them. So a text is audited as a tree whose area ends
 //!   with its words (`IsCut`), and the first point that fails is that of the whole tree. The area
 //!   is never shorter than 1,024 words.
 //! - Words are read from the text itself (`Words`), since a copy would hold the largest input
@@ -52,7 +52,7 @@
 //!   cost as many steps as the way has nodes, so a small text of very deep playouts would take
 //!   long. A playout is added to its leaf's block alone; then each block, from the last word down,
 //!   hands its sum to its parent and its parent's block. What it hands to a seen word is found
-//!   without the playouts: each cell of a filled board has a stone of one player, so the parent's
+//!   without the playouts. Each cell of a filled board has a stone of one player, so the parent's
 //!   block sees a cell in those playouts in which this one does not, and the wins are turned.
 //! - `Ending` is made from `fill` and not by `play`, since only the contract of `fill` says that no
 //!   cell is empty. The words are passed once, from low to high: a block lies above its parent, so

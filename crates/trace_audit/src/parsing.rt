@@ -19,9 +19,9 @@ use tree_words::{LEAST_WORDS, Shape};
 /// The name of a text and its fields have so many bytes.
 const FRONT_BYTES: usize = WORD_BYTES + WORD_BYTES * FIELDS;
 
-/// What is read from a text: the shape that it tells; the same shape with an area that ends behind
-/// the written words, and the words up to there, so that no memory is taken for words of which the
-/// text has none; and how many bytes the text has.
+/// What is read from a text: the shape that it tells, and how many bytes it has. Also the same
+/// shape with an area that ends behind the written words, and the words up to there, so that no
+/// memory is taken for words of which the text has none.
 #[derive(Drop)]
 pub(crate) struct Text<'a> {
     pub(crate) shape: Shape,
@@ -59,7 +59,7 @@ fn fields_in(bytes: &[u8]) -> Option<[u64; FIELDS]>
     Some(fields)
 }
 
-// How many words a text has whose shape and last field these are: from all in front of the block
+// How many words a text has whose shape and last field these are: from all before the block
 // area to all of the tree, and no more than the bytes behind the fields have.
 fn count_in(shape: &Shape, field: u64, bytes: usize) -> Option<usize>
     ensures { MatchOption result (¬ (MayFollow shape.now field bytes))
@@ -82,7 +82,7 @@ struct Front {
     count: usize,
 }
 
-// The front of the text that the bytes begin with; `None` if they begin with none.
+// What name and fields of the text tell that the bytes begin with; `None` if they begin with none.
 fn read_front(bytes: &[u8]) -> Option<Front>
     ensures { MatchOption result (BeginsWithNoTree bytes.now)
         (λ front. IsFront bytes.now front.shape front.count) }

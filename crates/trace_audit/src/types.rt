@@ -11,9 +11,9 @@ pub enum Audit {
         /// How many texts there are.
         trees: u32,
     },
-    /// A text is not that of a closed tree, and all texts in front of it are.
+    /// A text is not that of a closed tree, and all texts before it are.
     No {
-        /// How many texts stand in front of it.
+        /// How many texts stand before it.
         tree: u32,
         /// Its first flaw.
         why: Flaw,
@@ -23,7 +23,7 @@ pub enum Audit {
 /// What a text lacks, in the order in which it is looked for.
 #[derive(Clone, Copy, Debug, PartialEq, Eq)]
 pub enum Flaw {
-    /// It is cut short, has another name in front, a field out of its range, stones that meet or
+    /// It is cut short, has another name, a field out of its range, stones that meet or
     /// lie off the board, no allowed cell or one that is not empty, or too few or too many words.
     BadForm = 1,
     /// A linked block is not complete, is not named by its parent's link, or shares a word with

@@ -7,17 +7,17 @@
 //! or a note. A seat's *view* is what is known of it by its own steps alone, and tells which steps
 //! fit it, what they may answer and what they leave (arena_rule).
 //!
-//! **A caller** makes a tree with [`Tree::make`], splits its one seat into one for each worker with
-//! [`TreeSeat::split`], lets each worker make its steps with [`TreeSeat::act`] until its draw
-//! answers that no playout is left, puts the seats together again with [`TreeSeat::join`], and
-//! takes the closed tree out with [`Tree::close`].
+//! **A caller** makes a tree with [`Tree::make`], and splits its one seat into one for each worker
+//! with [`TreeSeat::split`]. Each worker makes its steps with [`TreeSeat::act`] until its draw
+//! answers that no playout is left. Then the caller puts the seats together again with
+//! [`TreeSeat::join`], and takes the closed tree out with [`Tree::close`].
 //!
 //! **What is proved.** The arena rule holds between any two steps, whichever seats make them. A
 //! step that fits has an answer that it may give, and the view afterwards is the one of that
-//! answer: what a seat knows only grows, and a look at a node's tally answers at least the visits
+//! answer. What a seat knows only grows, and a look at a node's tally answers at least the visits
 //! that this seat itself made there. A split and a join give the views that the rule says. The
-//! words at the end are a closed tree; they show what the last seat knew, their records are those
-//! of its walks, which are the walks of all playouts, and if its view has a copy of all words
+//! words at the end are a closed tree. They show what the last seat knew, and their records are
+//! those of its walks, which are the walks of all playouts. If its view has a copy of all words
 //! they are that copy. `make` takes all memory, of which its only refusal speaks; no other call
 //! takes any, and none waits.
 //!

@@ -26,7 +26,7 @@ pub const TICKET_AT: usize = 1;
 /// The records begin behind NEXT and TICKET.
 pub const RECORDS_AT: usize = 2;
 
-/// The words in front of the block area besides the records: NEXT, TICKET and the root's four.
+/// The words before the block area besides the records: NEXT, TICKET and the root's four.
 pub const FRONT_WORDS: usize = 6;
 
 /// A node has four words: its move, its link, its tally and its seen word.

@@ -15,7 +15,7 @@
 //! **What is proved**, in the words of specs/OneTurn.antt and specs/HandingIn.antt: after success
 //! the archive has exactly one turn more, if it tells; the turn is good for a session that looks
 //! for no connections, and has number 0. In sim it is that of the board without stones, with Black
-//! to move, and its tree is that of the schedule; in bench it is that of the position, whose stones
+//! to move, and its tree is that of the schedule. In bench it is that of the position, whose stones
 //! are the longest prefix of a third of the shuffled cells of which none joins its player. The text
 //! is that of the turn. In bench, and in sim with one worker, the options determine it. At a write
 //! fault a prefix of it was given; at an archive fault or out of memory nothing was, and the

@@ -60,7 +60,7 @@ fn place_stones(size: Size, cells: &[Cell]) -> BenchPosition
     }
 }
 
-/// The position of mode bench on a board of this size: the board's cells are shuffled as for
+/// The position of mode bench on a board of this size. The board's cells are shuffled as for
 /// playout 0 of a search with this seed, and stones are placed on the first third of them in turn,
 /// Black's first, until the next one would join its player.
 pub fn bench_position(size: Size, seed: u64) -> BenchPosition

@@ -13,10 +13,10 @@ use std::alloc::Global;
 use std::thread::Threads;
 use tree_words::Knobs;
 
-/// The turn after so many `turns` of a session, on this board with `colour` to move: planned, with
-/// a look for connections (`hsearch`) or without, and if the plan is no win, searched among the
-/// cells that it allows by the workers of the knobs, which pass the gate. The search's seed is that
-/// of the knobs plus `turns·2^32`, modulo 2^64.
+/// The turn after so many `turns` of a session, on this board with `colour` to move. It is planned,
+/// with a look for connections (`hsearch`) or without. If the plan is no win, it is searched among
+/// the cells that the plan allows, by the workers of the knobs, which pass the gate. The search's
+/// seed is that of the knobs plus `turns·2^32`, modulo 2^64.
 ///
 /// No player is joined on the board, a cell is empty, and the knobs are in their ranges. It refuses
 /// only if memory runs out. The call returns if its workers do.

@@ -20,7 +20,7 @@
 //! **Why so.**
 //!
 //! - One call makes a turn for a session, for mode `bench` and for a match. hex_plan knows no
-//!   search and search_team no plan, so it is a crate on both; mode `sim` alone makes its turn from
+//!   search and search_team no plan, so it is a crate on both. Mode `sim` alone makes its turn from
 //!   hex_plan's parts, since its tree is that of a schedule. What the call promises is one word,
 //!   `IsOwed`; a session's transcript goes by the test that a turn is the next one (`is_next`),
 //!   which has to compute.

@@ -18,10 +18,10 @@
 //! [`Parent::is_low`] of each and [`Parent::score`] of those that are not low.
 //!
 //! **What is proved.** [`level`], [`root`] and [`score`] give exactly the numbers of
-//! `specs/Scores.antt`, [`Parent::score_above`] is such a score exactly if it is greater, a child
-//! of which [`Parent::is_low`] holds has no score above the bar, and [`better`] is exactly its word
-//! in `specs/Choice.antt`. The law [`going_through_gives_choice`] says that the child kept at the
-//! end is Choice. Floats are only guesses: a guess is taken if its square shows that it is
+//! `specs/Scores.antt`, and [`Parent::score_above`] is such a score exactly if it is greater. A
+//! child of which [`Parent::is_low`] holds has no score above the bar, and [`better`] is exactly
+//! its word in `specs/Choice.antt`. The law [`going_through_gives_choice`] says that the child kept
+//! at the end is Choice. Floats are only guesses: a guess is taken if its square shows that it is
 //! right.
 //!
 //! **What is only tested, or not said.** That scores choose well, and how long a call takes.
@@ -32,10 +32,10 @@
 //! **Why so.**
 //!
 //! - A choice doesn't need each child's score. A [`Parent`], made once for a block, keeps a factor
-//!   above the weight times the root of the parent's level; a child's bonus is at most this factor
+//!   above the weight times the root of the parent's level. A child's bonus is at most this factor
 //!   times the reciprocal root of its visits, from a table of 1,023 numbers that is proved number
-//!   by number (more visits are quartered until the table has them, which makes the bound greater
-//!   by at most a 500th part). The mean is bounded by products. If both are no more than the best
+//!   by number. More visits are quartered until the table has them, which makes the bound greater
+//!   by at most a 500th part. The mean is bounded by products. If both are no more than the best
 //!   score so far, which is so for nearly every child, nothing is divided.
 //! - A search keeps a bar beside the best score, never above what the products can bear, and asks
 //!   [`Parent::is_low`]: so no child asks whether its products fit, and none whether it is the

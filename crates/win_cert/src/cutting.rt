@@ -108,7 +108,7 @@ fn numbers_of(alloc: Global, renamed: &[u32], asked: &[u32]) -> Result<Vec<u32>,
     Ok(numbers)
 }
 
-// The line for an entry that follows from others, where these have the numbers `renamed`.
+// The line for an entry that follows from others, which have the numbers `renamed`.
 fn line_of(elements: &Elements, entry: Entry, renamed: &[u32]) -> Line
     requires valid { IsValid elements.now entry }
     requires stones { AreStonesOn elements.now }

@@ -4,7 +4,7 @@
 //! claim; each of these lines, and the claim, is a *statement* ([`Statement`]). Each line gives an
 //! *entry* in its *scope*, a set of cells on which the player is taken to have stones too, or sets
 //! the scope of the lines after it. A certificate is *accepted* if none of thirteen reasons against
-//! a line or the claim applies ([`Reason`]); the *verdict* on it ([`Verdict`]) is yes, with the
+//! a line or the claim applies ([`Reason`]). The *verdict* on it ([`Verdict`]) is yes, with the
 //! claim and the carrier of its entry, or the first line with a reason against it and that reason.
 //!
 //! **A caller** reads a text ([`read`]), writes one ([`write`]), raises a certificate to the latest

@@ -21,7 +21,7 @@ solve --hsearch off --budget 1|(;GM[11]SZ[2])
 sim --size 2 --playouts 3 --words 1024|
 bench --size 2 --playouts 3 --words 1024|";
 
-/// The front of a text that has so many answers, each of which ends with two line feeds.
+/// The prefix of a text that has so many answers, each of which ends with two line feeds.
 fn front_of(text: &[u8], answers: usize) -> &[u8] {
     let mut left = answers;
     let mut end = 0;
@@ -63,8 +63,8 @@ fn length_with(input: &[u8], lines: usize) -> usize {
 }
 
 /// How many reads, of one byte each, a run has made that gave these bytes and is about to give
-/// more: in a session up to the end of the next line, and in another mode all, with that at the
-/// end.
+/// more. In a session they go up to the end of the next line, and in another mode they are all,
+/// with that at the end.
 fn reads_before(words: &str, input: &[u8], given: &[u8]) -> usize {
     if words.starts_with("htp") {
         length_with(input, answers_in(given))

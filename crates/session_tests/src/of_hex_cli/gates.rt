@@ -33,7 +33,7 @@ fn gate_counts(rt: HostRuntime) -> Result<(), Fail> {
     Ok(())
 }
 
-/// Words of searches by two workers with a walk each, their input, the front of what is given, and
+/// Words of searches by two workers with a walk each, their input, a prefix of what is given, and
 /// how many of the root's children are not the first.
 const MEETINGS: [(&str, &[u8], &[u8], usize); 2] = [
     (

@@ -14,9 +14,9 @@ use std::thread::Threads;
 /// the record without its last byte.
 pub const RECORD: &[u8] = b"(;FF[4]GM[11]SZ[3]AP[Editor:0.9]C[a\\]b];B[a2];W[swap-pieces];B[c3])";
 
-/// What a run is made over: words with one space between two, an input, the content of the file
-/// `f`, the most bytes of a read or a write, the numbers of the calls that fail, and how many turns
-/// the archive holds.
+/// What a run is made over: words with one space between two, an input, and the content of the file
+/// `f`. Then the most bytes of a read or a write, the numbers of the calls that fail, and how many
+/// turns the archive holds.
 #[derive(Clone, Copy)]
 pub struct Case<'a> {
     pub words: &'a str,
