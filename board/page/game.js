@@ -68,11 +68,16 @@ class Game {
     }
   }
 
-  /** Which move of those up to a position hexd refuses, and why, in words. */
+  /** Which stone of the start or which move up to a position hexd refuses, and why, in words. */
   async whyNot(position) {
     const {session} = this, {tree} = position;
-    if (tree.start.length) return 'hexd can\'t play it: two stones of the start lie on one cell, or a move is illegal';
     await session.ask(`boardsize ${tree.size}`);
+    // Stones of the start are played too: hexd takes moves out of turn.
+    for (const [colour, cell] of tree.start) {
+      if (await session.tell(`play ${colour} ${cell}`) === null) {
+        return `no stone of the start can lie on ${cell}, for ${await this.whyIllegal(cell, tree.size)}`;
+      }
+    }
     for (const {step: {colour, move}, number} of position.path.slice(1)) {
       if (await session.tell(`play ${colour} ${move}`) === null) {
         return `move ${number} is illegal: ${COLOURS[colour]} ${move}, for ${await this.whyIllegal(move, tree.size)}`;

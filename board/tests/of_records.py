@@ -30,6 +30,8 @@ class Records(Pages):
                 "hexd: move 3 is illegal: Black swap-pieces, for only White may swap, and only Black's first stone",
             ),
             (b"(;SZ[3];B[b2];W[x-y])", "hexd: move 2 is no move: White 'x-y'"),
+            (b"(;SZ[3]AB[b2]AW[a1];W[a2];B[a2])", "hexd: move 2 is illegal: Black a2, for there is a stone on it"),
+            (b"(;SZ[3]AB[b2]AW[b2])", "hexd: no stone of the start can lie on b2, for there is a stone on it"),
         ):
             with self.subTest(record=record):
                 self.opened(record)
