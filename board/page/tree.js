@@ -79,7 +79,9 @@ function treeOfMoves({size, start, steps, position = steps.length}) {
   return tree;
 }
 
-const stonesIn = ({AB = [], AW = []}) => [...AB.map(vertex => ['b', vertex]), ...AW.map(vertex => ['w', vertex])];
+// hexd also reads cells in capitals.
+const stonesIn = ({AB = [], AW = []}) =>
+  [...AB.map(vertex => ['b', vertex.toLowerCase()]), ...AW.map(vertex => ['w', vertex.toLowerCase()])];
 
 /** Adds what stands in a node without a move to the position before it; `left` gets the names of what has no place there. */
 function mergeProperties(position, properties, left) {
@@ -112,7 +114,7 @@ function treeOfRecord(text) {
 /** The position that a node of a record leads to. */
 function placed(tree, parent, {B, W, ...properties}, left) {
   delete properties[HERE];
-  const colour = B ? 'b' : 'w', move = (B ?? W)?.[0];
+  const colour = B ? 'b' : 'w', move = (B ?? W)?.[0].toLowerCase();
   if (ENDINGS.includes(move)) parent.end = {colour, move, properties};
   if (!move || ENDINGS.includes(move)) {
     mergeProperties(parent, ENDINGS.includes(move) ? {} : properties, left);

@@ -124,8 +124,9 @@ class Records(Pages):
 
     def test_a_record_of_another_program_in_the_box(self):
         self.start("6")
-        self.enter("(;SZ[4];B[b2];W[C3])")
-        self.soon("4,b2,c3", self.link)
+        self.enter("(;SZ[4]AB[A1];B[b2];W[C3])")
+        self.soon("4,+b-a1,b2,c3", self.link)
+        self.assertTrue(self.browser.all("[data-vertex=c3] .last"))
 
     def test_copies(self):
         browser = self.start("9,a3,swap,b4,c5,@2")
