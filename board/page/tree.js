@@ -114,7 +114,7 @@ function treeOfRecord(text) {
 /** The position that a node of a record leads to. */
 function placed(tree, parent, {B, W, ...properties}, left) {
   delete properties[HERE];
-  const colour = B ? 'b' : 'w', move = (B ?? W)?.[0].toLowerCase();
+  const colour = B ? 'b' : 'w', move = (B ?? W)?.[0]?.toLowerCase();
   if (ENDINGS.includes(move)) parent.end = {colour, move, properties};
   if (!move || ENDINGS.includes(move)) {
     mergeProperties(parent, ENDINGS.includes(move) ? {} : properties, left);
