@@ -149,6 +149,17 @@ def is_of_others(shipped):
     return False
 
 
+def what_changed(before, made):
+    """What is other in a page that was made than in the one that was there, in words."""
+    if not before:
+        return "new"
+    if content(before) == content(made):
+        return "as before"
+    old, new = said_in(before), said_in(made)
+    other = [name for name in ("sources", "kit", "playouts") if old.get(name) != new.get(name)]
+    return f"other {', '.join(other)}" if other else "changed, of the same sources"
+
+
 def is_same(shipped, module):
     """Whether a shipped page is what its sources make; if they aren't those of the tree there is nothing to compare."""
     return is_of_others(shipped) or content(shipped) == content(page(module_of(module), int(said_in(shipped)["playouts"])))
@@ -164,8 +175,10 @@ def main():
     try:
         if not options.compare:
             made = page(module_of(options.module), options.playouts)
+            before = options.out.read_text() if options.out.exists() else ""
             options.out.parent.mkdir(parents=True, exist_ok=True)
             options.out.write_text(made)
+            print(f"{options.out}: {what_changed(before, made)}")
         elif not is_same(options.compare.read_text(), options.module):
             raise build.Refused(f"{options.compare} is not what its sources make")
     except (build.Refused, OSError) as fault:
