@@ -10,7 +10,7 @@ use Rattle.hex_board.specs.Wins.{empty_count}
 use Rattle.hex_board.proofs.Placed.{placed_keeps, placed_size}
 use Rattle.hex_board.proofs.WinLaws.{one_empty_less}
 use Rattle.conn_store.specs.declared.entries.Kind.TheVariants.{Full, Semi}
-use Rattle.hex_solve.specs.Deciding.{lines_of, need}
+use Rattle.hex_solve.specs.Deciding.{lines_needed, need}
 use Rattle.hex_solve.specs.Ledgers.{CountsBy, GrowsBy, IsLedger, LedgerData, ShowsWin, count_of}
 use Rattle.hex_solve.specs.Marks.{IsBefore, mark_of}
 use Rattle.hex_solve.specs.Solved.{IsOpenBoard}
@@ -93,10 +93,10 @@ mover_wins p mover begun own start other mine theirs last back most left rest nu
         subst (λ v. count_of last ≤ count_of begun + tree_lines Semi v)
             (sym (one_empty_less p mover k (w.inside k h)))
             (two_more (count_of last) (count_of mine) (count_of own) (count_of begun) (tree_lines Full (empty_count (placed p mover k))) grow.count b (ap count_of e)),
-        subst (λ (d : LedgerData). CountsBy (lines_of mover p mover) d last) e
+        subst (λ (d : LedgerData). CountsBy (lines_needed mover p mover) d last) e
             (subst (λ v. CountsBy v own last) (sym win.after)
             (counts_on (lines_after mover p mover k) 2 own mine last grow.lost (subst (λ (c : Colour). CountsBy
-            (lines_of c (placed p mover k) (other_of mover)) own mine) (other_back mover) x) more)),
+            (lines_needed c (placed p mover k) (other_of mover)) own mine) (other_back mover) x) more)),
       ),
     )
   where

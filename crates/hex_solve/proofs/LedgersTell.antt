@@ -16,7 +16,7 @@ use Rattle.win_cert.specs.Scopes.{player_board}
 use Rattle.win_cert.specs.Writable.{IsLineOf}
 use Rattle.win_cert.specs.declared.certs.Cert.{Cert}
 use Rattle.win_cert.specs.declared.certs.TheConstants.{LATEST_VERSION, MOST_LINES}
-use Rattle.hex_solve.specs.Deciding.{lines_of, need}
+use Rattle.hex_solve.specs.Deciding.{lines_needed, need}
 use Rattle.hex_solve.specs.Ledgers.{IsLedger, LedgerData, ShowsWin, count_of, read_of}
 use Rattle.hex_found.specs.Found.{IsCertifiedWinner, claim_for}
 use Rattle.hex_solve.specs.Solved.{few_cells}
@@ -134,8 +134,8 @@ long_told p mover claim line d winner lines t w (l, m) =
       long = l;
       large = over_nine p claim (count_of d) t.tree many;
       fewer = let e : count_of d ≤ 2 * need p mover = t.entered in omega (arith, e, within);
-      counted = λ z. subst (λ (c : Colour). lines ≡ lines_of c p mover) (sym w)
-          (exact lines (length d.lines) d.lost (lines_of d.base.player p mover) m t.counted z);
+      counted = λ z. subst (λ (c : Colour). lines ≡ lines_needed c p mover) (sym w)
+          (exact lines (length d.lines) d.lost (lines_needed d.base.player p mover) m t.counted z);
     }
   where
     exact : (n a x c : ℕ) → n ≡ min (a + x) (2 ^ 64 - 1) → (x < 2 ^ 64 - 1 → a + x ≡ c)
@@ -168,8 +168,8 @@ own_told p mover line own other mine theirs e z (g, s, q, f, b, x) =
       shows = subst (λ (x : Position). ShowsWin mine x Semi line) (sym board) s;
       entered = from_none (count_of mine) (count_of own) (2 * need p mover) z g.count;
       tree = from_none (count_of mine) (count_of own) (tree_lines Semi (empty_count p)) z b;
-      counted = λ y. subst (λ (c : Colour). count_of mine ≡ lines_of c p mover) (sym player)
-          (just (count_of mine) (count_of own) (lines_of mover p mover) z (x y));
+      counted = λ y. subst (λ (c : Colour). count_of mine ≡ lines_needed c p mover) (sym player)
+          (just (count_of mine) (count_of own) (lines_needed mover p mover) z (x y));
     }
   where
     from_none : (x y m : ℕ) → y ≡ 0 → x ≤ y + m → x ≤ m
@@ -192,8 +192,8 @@ other_told p mover line own other mine theirs e z (g, s, q, f, b, x) =
       shows = subst (λ (x : Position). ShowsWin theirs x Full line) (sym board) s;
       entered = from_none (count_of theirs) (count_of other) (2 * need p mover) z g.count;
       tree = from_none (count_of theirs) (count_of other) (tree_lines Full (empty_count p)) z b;
-      counted = λ y. subst (λ (c : Colour). count_of theirs ≡ lines_of c p mover) (sym player)
-          (just (count_of theirs) (count_of other) (lines_of (other_of mover) p mover) z (x y));
+      counted = λ y. subst (λ (c : Colour). count_of theirs ≡ lines_needed c p mover) (sym player)
+          (just (count_of theirs) (count_of other) (lines_needed (other_of mover) p mover) z (x y));
     }
   where
     from_none : (x y m : ℕ) → y ≡ 0 → x ≤ y + m → x ≤ m

@@ -20,7 +20,7 @@ use Rattle.hex_cells.proofs.Counts.{members_few, members_less, members_test}
 use Rattle.conn_store.proofs.Sureness.{in_without, without_inside, without_itself}
 use Rattle.conn_store.specs.declared.entries.Kind.TheVariants.{Semi}
 use Rattle.win_cert.proofs.CutDerivations.{longer}
-use Rattle.hex_solve.specs.Deciding.{first, is_for, lines_of, need, sum_up_to}
+use Rattle.hex_solve.specs.Deciding.{first, is_for, lines_needed, need, sum_up_to}
 use Rattle.hex_solve.specs.Ledgers.{AreAnswers, CountsBy, GrowsBy, IsAmong, LedgerData, ShowsWin}
 use Rattle.hex_solve.specs.Ledgers.{count_of}
 use Rattle.hex_solve.specs.PlainSearch.{IsPairOfLedgers, tree_lines}

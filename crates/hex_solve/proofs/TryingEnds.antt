@@ -11,7 +11,7 @@ use Rattle.hex_board.specs.Joined.{cells_of, is_joined}
 use Rattle.hex_board.specs.Positions.{Position, is_empty_at, placed, stones_of}
 use Rattle.hex_board.specs.Wins.{empty_count}
 use Rattle.conn_store.specs.declared.entries.Kind.TheVariants.{Full, Semi}
-use Rattle.hex_solve.specs.Deciding.{first, is_for, lines_of, need, sum_up_to}
+use Rattle.hex_solve.specs.Deciding.{first, is_for, lines_needed, need, sum_up_to}
 use Rattle.hex_solve.specs.Ledgers.{AnswerAll, CountsBy, GrowsBy, LedgerData, count_of}
 use Rattle.hex_solve.specs.PlainSearch.{tree_lines}
 use Rattle.hex_solve.proofs.FirstWins.{other_back}
@@ -28,7 +28,7 @@ pub record Winning (p : Position) (mover : Colour) (most rest m lines : ℕ) : T
   pub entered : rest + need p mover ≡ most + 1
   pub more : 1 + m ≤ need p mover
   pub first : first p mover ≡ Some mover
-  pub after : lines_of mover p mover ≡ lines + 2
+  pub after : lines_needed mover p mover ≡ lines + 2
 
 pub trying_won : (p : Position) (mover : Colour) (own start other : LedgerData) (most left rest : ℕ)
     (numbers : List ℕ) (cells k : ℕ) → IsTrying p mover own start other most left numbers cells
@@ -56,7 +56,7 @@ trying_won p mover own start other most left rest numbers cells k w a h n r f =
       entered = entered (need p mover) left rest m most _ w.sum fell r;
       more = more (need p mover) left m most _ w.sum fell w.spent;
       first = won;
-      after = after (lines_of mover p mover) _ _ (lines_after mover p mover k)
+      after = after (lines_needed mover p mover) _ _ (lines_after mover p mover k)
           (lines_next mover p mover c (nobody p mover w.searched.unjoined a) e won) w.of_mover lines;
     }
   where
@@ -100,7 +100,7 @@ pub record Losing (p : Position) (mover : Colour) (start other : LedgerData) (mo
   pub short : count_of other + 2 ≤ count_of start + tree_lines Full (empty_count p)
   pub lines : ℕ
   pub counted : CountsBy lines start other
-  pub after : lines_of (other_of mover) p mover ≡ lines + 2
+  pub after : lines_needed (other_of mover) p mover ≡ lines + 2
 
 pub trying_done : (p : Position) (mover : Colour) (own start other : LedgerData) (most left : ℕ)
     (numbers : List ℕ) (cells k : ℕ) → IsTrying p mover own start other most left numbers cells
@@ -128,7 +128,7 @@ trying_done p mover own start other most left numbers cells k w a h n =
           (subst (λ v. length numbers ≤ v) e (low (length numbers) (members cells (p.size * p.size)) (empty_count p) w.room)));
       lines = w.lines;
       counted = w.counted;
-      after = after (lines_of (other_of mover) p mover) _ _ w.lines
+      after = after (lines_needed (other_of mover) p mover) _ _ w.lines
           (lines_next (other_of mover) p mover c (nobody p mover w.searched.unjoined a) e lost) w.of_other
           (sum_none (has cells) (wins_by p mover) (lines_after (other_of mover) p mover) 0
           (p.size * p.size) n);

@@ -57,18 +57,18 @@ need p mover = need_in (empty_count p) p mover
 
 -- how many lines a certificate has by which such a search shows that player c wins: two, and those
 -- of each position that it enters after a stone; none if he doesn't win
-abbrev pub lines_in : Colour → ℕ → Position → Colour → ℕ
-lines_in c zero p mover = if is_for c (winner_of p) then 2 else 0
-lines_in c (suc fuel) p mover =
+abbrev pub lines_needed_in : Colour → ℕ → Position → Colour → ℕ
+lines_needed_in c zero p mover = if is_for c (winner_of p) then 2 else 0
+lines_needed_in c (suc fuel) p mover =
     if is_for c (first_in (suc fuel) p mover) then 2 + (if is_some (winner_of p) then 0
     else sum_up_to (is_empty_at p)
     (λ k. is_for mover (first_in fuel (placed p mover k) (other_of mover)))
-    (λ k. lines_in c fuel (placed p mover k) (other_of mover))
+    (λ k. lines_needed_in c fuel (placed p mover k) (other_of mover))
     (cells_of p.size))
     else 0
 
-abbrev pub lines_of : Colour → Position → Colour → ℕ
-lines_of c p mover = lines_in c (empty_count p) p mover
+abbrev pub lines_needed : Colour → Position → Colour → ℕ
+lines_needed c p mover = lines_needed_in c (empty_count p) p mover
 
 -- m · (m - 1) · .. , i factors
 abbrev pub falling : ℕ → ℕ → ℕ

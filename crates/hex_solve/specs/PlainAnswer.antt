@@ -10,7 +10,7 @@ use Rattle.win_cert.specs.Verdicts.{Accepted}
 use Rattle.win_cert.specs.Writable.{IsWritable}
 use Rattle.win_cert.specs.declared.certs.Cert.{Cert}
 use Rattle.win_cert.specs.declared.certs.TheConstants.{LATEST_VERSION, MOST_LINES}
-use Rattle.hex_solve.specs.Deciding.{first, lines_of, need}
+use Rattle.hex_solve.specs.Deciding.{first, lines_needed, need}
 use Rattle.hex_solve.specs.Ledgers.{LedgerData, ShowsWin, count_of}
 use Rattle.hex_solve.specs.PlainSearch.{tree_lines}
 use Rattle.hex_found.specs.Found.{IsCertifiedWinner, claim_for}
@@ -38,7 +38,7 @@ pub record IsToldBy (p : Position) (mover : Colour) (claim : Kind) (line : ℕ)
   pub shows : ShowsWin d d.base.board claim line
   pub entered : count_of d ≤ 2 * need p mover
   pub tree : count_of d ≤ tree_lines claim (empty_count p)
-  pub counted : d.lost < 2 ^ 64 - 1 → count_of d ≡ lines_of d.base.player p mover
+  pub counted : d.lost < 2 ^ 64 - 1 → count_of d ≡ lines_needed d.base.player p mover
 
 -- the winner wins p, and his certificate has too many lines
 pub record IsOverlong (p : Position) (mover winner : Colour) (lines : ℕ) : Type 0 where
@@ -46,7 +46,7 @@ pub record IsOverlong (p : Position) (mover winner : Colour) (lines : ℕ) : Typ
   pub long : MOST_LINES < lines
   pub fewer : lines ≤ 2 * need p mover
   pub large : few_cells < empty_count p
-  pub counted : lines < 2 ^ 64 - 1 → lines ≡ lines_of winner p mover
+  pub counted : lines < 2 ^ 64 - 1 → lines ≡ lines_needed winner p mover
 
 -- what a search tells that was handed this report and may enter so many positions
 abbrev pub IsPlainAnswer : Position → Colour → Option StoreData → ℕ → Solved → Type 0

@@ -8,7 +8,7 @@ use Rattle.hex_board.specs.Positions.{Position, stones_of}
 use Rattle.hex_board.specs.Wins.{empty_count}
 use Rattle.conn_store.specs.declared.entries.Kind.{Kind}
 use Rattle.conn_store.specs.declared.entries.Kind.TheVariants.{Full, Semi}
-use Rattle.hex_solve.specs.Deciding.{first, lines_of, need}
+use Rattle.hex_solve.specs.Deciding.{first, lines_needed, need}
 use Rattle.hex_solve.specs.Ledgers.{CountsBy, GrowsBy, LedgerData, ShowsWin, count_of}
 use Rattle.win_cert.specs.Showing.{Keeps}
 use Rattle.hex_solve.specs.Solved.{IsOpenBoard}
@@ -40,11 +40,11 @@ abbrev pub IsShownBy : Bool → Position → Colour → ℕ → LedgerData × Le
 IsShownBy true p mover line old new = GrowsBy (2 * need p mover) old.0 new.0
     × ShowsWin new.0 p Semi line × (new.1 ≡ old.1) × (first p mover ≡ Some mover)
     × (count_of new.0 ≤ count_of old.0 + tree_lines Semi (empty_count p))
-    × CountsBy (lines_of mover p mover) old.0 new.0
+    × CountsBy (lines_needed mover p mover) old.0 new.0
 IsShownBy false p mover line old new = GrowsBy (2 * need p mover) old.1 new.1
     × ShowsWin new.1 p Full line × (new.0 ≡ old.0) × (first p mover ≡ Some (other_of mover))
     × (count_of new.1 ≤ count_of old.1 + tree_lines Full (empty_count p))
-    × CountsBy (lines_of (other_of mover) p mover) old.1 new.1
+    × CountsBy (lines_needed (other_of mover) p mover) old.1 new.1
 
 -- why a search stopped that may enter `left` positions: they are fewer than it needs, or a board is
 -- open, or memory ran out

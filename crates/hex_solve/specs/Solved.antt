@@ -13,7 +13,7 @@ use Rattle.win_cert.specs.Cuts.{IsEdgeEntryAt}
 use Rattle.win_cert.specs.declared.certs.Cert.{Cert}
 use Rattle.win_cert.specs.declared.certs.TheConstants.{MOST_LINES}
 use Rattle.hex_found.specs.Found.{Certifies}
-use Rattle.hex_solve.specs.Deciding.{lines_of, need}
+use Rattle.hex_solve.specs.Deciding.{lines_needed, need}
 use Rattle.win_cert.specs.Showing.{Keeps}
 use Rattle.hex_solve.specs.declared.answers.Solved.{Solved}
 use Rattle.hex_solve.specs.declared.answers.Solved.TheVariants.{Won, Unknown, TooLong, Open}
@@ -61,7 +61,7 @@ abbrev pub TooLongIsCounted : Position → Colour → Solved → Type 0
 TooLongIsCounted p mover (Won winner cert) = Unit {0}
 TooLongIsCounted p mover (Unknown spent own) = Unit {0}
 TooLongIsCounted p mover (TooLong winner lines) =
-    lines < 2 ^ 64 - 1 → lines ≡ lines_of winner p mover
+    lines < 2 ^ 64 - 1 → lines ≡ lines_needed winner p mover
 TooLongIsCounted p mover (Open full) = Unit {0}
 
 -- ---- none
