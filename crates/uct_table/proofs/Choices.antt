@@ -1,10 +1,10 @@
 -- Going through children keeps the one of Choice.
-use Rattle.std.proofs.Common.{◌≡◌, ℕ, ◌+◌, ◌<◌, ◌≤◌, ◌==◌, Bool, true, false, cond, nat_lt, List, [], ◌∷◌, max, map, refl, sym, ap, ◌∙◌, arith, inl, inr}
+use Rattle.std.proofs.Common.{◌≡◌, ℕ, ◌+◌, ◌<◌, ◌≤◌, ◌==◌, Bool, true, false, cond, nat_lt, List, [], ◌∷◌, map, refl, sym, ap, ◌∙◌, arith, inl, inr}
 use Rattle.std.specs.List.{position_or_len, list_any}
-use Rattle.std.proofs.lemmas.Bool.{cases_lt}
+use Rattle.std.proofs.lemmas.Bool.{cases_lt, le-ltb, lt-ltb}
 use Rattle.uct_table.specs.Scores.{score_of}
 use Rattle.uct_table.specs.Choice.{Child, is_unvisited, score_in, largest, first_of_largest, choice_of}
-use Rattle.uct_table.proofs.Keeping.{first_here, first_later}
+use Rattle.uct_table.proofs.Keeping.{first_here, two_scores}
 
 -- the place that Choice takes at the end, if none so far is without visits, the greatest score so far is `most`, first at `best`,
 -- and these children stand from `place` on
@@ -34,14 +34,6 @@ pub chosen_here : (p c place best most : ℕ) (x : Child) (xs : List Child) → 
 chosen_here p c place best most x xs e = let none : (x.visits == 0) ≡ true = grind arith in rw none (omega arith)
 
 -- a child with visits
-two_scores : (i j x y : ℕ) (ns : List ℕ)
-    → cond (nat_lt x y) (cond (nat_lt y (largest ns)) ((j + 1) + first_of_largest ns) j) (cond (nat_lt x (largest ns)) ((j + 1) + first_of_largest ns) i)
-    ≡ cond (nat_lt x (max y (largest ns))) (j + first_of_largest (y ∷ ns)) i
-two_scores i j x y ns = elim (cases_lt y (largest ns)) [
-  | inl lt ↦ rw (first_later y ns lt) (grind arith)
-  | inr ge ↦ rw (first_here y ns ge) (grind arith)
-]
-
 two_places : (any t : Bool) (j k a b m : ℕ) → cond t a b ≡ m → cond t (cond any ((j + 1) + k) a) (cond any ((j + 1) + k) b) ≡ cond any (j + (1 + k)) m
 two_places true true j k a b m e = omega arith
 two_places true false j k a b m e = omega arith
@@ -63,20 +55,14 @@ score_is p c v w a b x hv hw ha hb i = score_of p (hv i) (hw i) (ha i) (hb i) c
 pub taken : (p c place best most score : ℕ) (x : Child) (xs : List Child) → 0 < x.visits → score ≡ score_in p c x → most < score
     → chosen_from p c place best most (x ∷ xs) ≡ chosen_from p c (place + 1) place score xs
 taken p c place best most score x xs some is less =
-    let t : nat_lt most (score_in p c x) ≡ true = ap (nat_lt most) (sym is) ∙ yes_less most score less in
+    let t : nat_lt most (score_in p c x) ≡ true = ap (nat_lt most) (sym is) ∙ lt-ltb most score less in
     sym (chosen_later p c place best most x xs some)
     ∙ ap (λ u. cond u (chosen_from p c (place + 1) place (score_in p c x) xs) (chosen_from p c (place + 1) best most xs)) t
     ∙ ap (λ n. chosen_from p c (place + 1) place n xs) (sym is)
-  where
-    yes_less : (a b : ℕ) → a < b → nat_lt a b ≡ true
-    yes_less a b l = grind arith
 
 pub passed : (p c place best most : ℕ) (x : Child) (xs : List Child) → 0 < x.visits → score_in p c x ≤ most
     → chosen_from p c place best most (x ∷ xs) ≡ chosen_from p c (place + 1) best most xs
 passed p c place best most x xs some less =
-    let t : nat_lt most (score_in p c x) ≡ false = not_less most (score_in p c x) less in
+    let t : nat_lt most (score_in p c x) ≡ false = le-ltb most (score_in p c x) less in
     sym (chosen_later p c place best most x xs some)
     ∙ ap (λ u. cond u (chosen_from p c (place + 1) place (score_in p c x) xs) (chosen_from p c (place + 1) best most xs)) t
-  where
-    not_less : (a b : ℕ) → b ≤ a → nat_lt a b ≡ false
-    not_less a b l = grind arith

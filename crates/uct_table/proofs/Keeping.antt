@@ -25,7 +25,8 @@ first_later n ns lt =
     let top : max n (largest ns) ≡ largest ns = omega arith in
     ap (λ t. position_or_len (λ m. m == t) (n ∷ ns)) top ∙ skip_one n (largest ns) ns lt
 
-two_scores : (i j x y : ℕ) (ns : List ℕ)
+-- x is the greatest score so far, at place i; y stands at place j, and these scores after it
+pub two_scores : (i j x y : ℕ) (ns : List ℕ)
     → cond (nat_lt x y) (cond (nat_lt y (largest ns)) ((j + 1) + first_of_largest ns) j) (cond (nat_lt x (largest ns)) ((j + 1) + first_of_largest ns) i)
     ≡ cond (nat_lt x (max y (largest ns))) (j + first_of_largest (y ∷ ns)) i
 two_scores i j x y ns = elim (cases_lt y (largest ns)) [
