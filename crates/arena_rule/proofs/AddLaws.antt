@@ -28,6 +28,8 @@ use Rattle.arena_rule.proofs.Amounts.{amount-append, amount-parts, wins_added, w
 use Rattle.arena_rule.proofs.Amounts.{miss, hit, seen-none, seen-hit}
 use Rattle.std.proofs.lemmas.Bool.{eqb-true, eq-eqb, cases_Bool, or_cases, false_from_ne_true}
 use Rattle.std.proofs.lemmas.Bool.{or_left}
+use Rattle.tree_words.proofs.Walks.Climbs.{or_false}
+use Rattle.tree_words.proofs.Walks.Countings.{cond-and}
 use Rattle.tree_words.proofs.Walks.Tallies.{other_again}
 
 -- the seen words of a block lie in it
@@ -37,7 +39,8 @@ seen-covers b j l = covers_if (b.start + 4 + 4 * j + SEEN_WORD) b (omega arith) 
 
 module _ (s : Setting) (o : Ending) where
   -- the state that is gathered with the adds is the node's
-  adds-state : (bs : List LinkedBlock) (y : ℕ) → (adds_up s o bs y).state ≡ node_state s bs y
+  pub adds-state : (bs : List LinkedBlock) (y : ℕ)
+      → (adds_up s o bs y).state ≡ node_state s bs y
   adds-state [] y = refl
   adds-state (b ∷ bs) y = by (has_node b y) (adds-state bs b.parent) (adds-state bs y)
     where
@@ -153,7 +156,7 @@ module _ (s : Setting) (o : Ending) (x : ℕ) where
       up-here s o (x + TALLY_WORD) b bs y hy
       ∙ omega (arith, seen, new-none s o b bs x 2 b.parent g.0 hx (omega arith), tally (y == x) won refl)
       ∙ ap (λ (t : Bool). cond t (amount_of won) 0)
-      (sym (any-here s (λ (z : ℕ). z == x) b bs y hy ∙ last (y == x) (is_on s bs x b.parent) (on-none s b bs x b.parent g.0 hx)))
+      (sym (any-here s (λ (z : ℕ). z == x) b bs y hy ∙ or_false (y == x) (is_on s bs x b.parent) (on-none s b bs x b.parent g.0 hx)))
       ∙ ap (λ (c : Colour). cond (is_on s (b ∷ bs) x y) (amount_of (is_same o.winner c)) 0)
       (mover-new s b bs x hx))
       (λ (hy : has_node b y ≡ false).
@@ -184,10 +187,6 @@ module _ (s : Setting) (o : Ending) (x : ℕ) where
       (cases_Bool (has_node b y)))
       (or_cases (has_node b x) (is_node (root_at s) bs x) n)
     where
-      last : (t u : Bool) → u ≡ false → (t || u) ≡ t
-      last true u e = refl
-      last false u e = e
-
       tally : (t : Bool) (won : Bool) → (y == x) ≡ t
           → cond (y + TALLY_WORD == x + TALLY_WORD) (amount_of won) 0 ≡ cond t (amount_of won) 0
       tally true won e
@@ -311,11 +310,7 @@ module _ (s : Setting) (bs : List LinkedBlock) (order : InOrder (root_at s) bs) 
       let stone : Bool = has_cell (stones_of o.full (mover_of s bs x)) (cell_at c (place c x)) in
       let won : Bool = is_same o.winner (mover_of s bs x) in
       one-add (enters s bs c leaf && stone) won (adds_in w adds) (wins_added w adds)
-      (both (enters s bs c leaf) stone (amount_of won) ∙ sym (seen-amount c x i h) ∙ amount-parts w adds) (wins-less w adds)
-    where
-      both : (t u : Bool) (n : ℕ) → cond (t && u) n 0 ≡ cond t (cond u n 0) 0
-      both true u n = refl
-      both false u n = refl
+      (cond-and (enters s bs c leaf) stone (amount_of won) ∙ sym (seen-amount c x i h) ∙ amount-parts w adds) (wins-less w adds)
 
   -- no add counts in the root's seen word
   pub adds-root : adds_in (root_at s + SEEN_WORD) (walk_adds s bs k leaf) ≡ 0

@@ -24,7 +24,8 @@ use Rattle.arena_rule.proofs.Before.{Before}
 use Rattle.arena_rule.proofs.Totals.{total_at, total_le}
 use Rattle.tree_words.proofs.Blocks.OneTree.{knows-in}
 use Rattle.arena_rule.proofs.Frames.{claimed-low, claimed-one, held-clear, in-range, next-area}
-use Rattle.tree_words.proofs.Blocks.NodeLaws.{in-cover}
+use Rattle.tree_words.proofs.Blocks.NodeLaws.{covers-one, in-cover}
+use Rattle.tree_words.proofs.Walks.Countings.{cond-most}
 
 -- blocks that have no word i
 cover-none : (ks : List LinkedBlock) (i : ℕ) → ((c : LinkedBlock) → In c ks → covers i c ≢ true)
@@ -32,21 +33,6 @@ cover-none : (ks : List LinkedBlock) (i : ℕ) → ((c : LinkedBlock) → In c k
 cover-none [] i h = refl
 cover-none (c ∷ ks) i h
     = omega (arith, cover-cons i c ks, ap one_if (false_from_ne_true (covers i c) (h c (inl refl))), cover-none ks i (λ d n. h d (inr n)))
-
--- two linked blocks that share a word are one
-one-block : (r : ℕ) (bs : List LinkedBlock) (c d : LinkedBlock) (i : ℕ) → InOrder r bs → In c bs
-    → In d bs → covers i c ≡ true → covers i d ≡ true → c ≡ d
-one-block r [] c d i g n m h k = absurd n
-one-block r (a ∷ bs) c d i g n m h k = ⊎_elim
-    (λ (e : c ≡ a). ⊎_elim
-    (λ (f : d ≡ a). e ∙ sym f)
-    (λ (f : In d bs). let z = g.0.clear i (ap (covers i) (sym e) ∙ h) in absurd (omega (arith, z, in-cover bs d i f k)))
-    m)
-    (λ (e : In c bs). ⊎_elim
-    (λ (f : d ≡ a). let z = g.0.clear i (ap (covers i) (sym f) ∙ k) in absurd (omega (arith, z, in-cover bs c i e h)))
-    (λ (f : In d bs). one-block r bs c d i g.1 e f h k)
-    m)
-    n
 
 -- the link of a block's parent names the block
 link-in : (r : ℕ) (bs : List LinkedBlock) (c : LinkedBlock) → InOrder r bs → In c bs → 0 < c.start
@@ -78,10 +64,6 @@ link-cover (c ∷ bs) x l = ⊎_elim
     let rest : 0 < cover (link_of bs x) bs = link-cover bs x (omega (arith, l, at)) in
     omega (arith, rest, ap (λ (z : ℕ). cover z bs) at, cover-cons (link_of (c ∷ bs) x) c bs))
     (cases_Bool (c.parent == x))
-
-full-less : (t : Bool) (n : ℕ) → cond t n 0 ≤ n
-full-less true n = omega arith
-full-less false n = omega arith
 
 -- what the linked blocks of a state tell
 module _ (s : Setting) (bs : List LinkedBlock) (words : List ℕ) (views : List SeatView)
@@ -162,7 +144,7 @@ module _ (bs : List LinkedBlock) (words : List ℕ) (views : List SeatView) (id 
         inside = w.inside;
         apart = λ i h. cover-none v.known i
             (λ c k q. link-none v.shape bs words views b.state v.known x c known z k
-            (ap (λ (a : LinkedBlock). a.parent) (one-block r bs c d i b.state.linked.blocks.order (knows-in r bs v.known c known k) m q h)));
+            (ap (λ (a : LinkedBlock). a.parent) (covers-one r bs c d i b.state.linked.blocks.order (knows-in r bs v.known c known k) m q h)));
         held = λ i h. false_from_ne_true (is_held v.held i)
             (λ q. absurd (omega (arith, held-clear bs words views id v b id v i b.at q, in-cover bs d i m h)));
       }
@@ -184,7 +166,7 @@ module _ (bs : List LinkedBlock) (words : List ℕ) (views : List SeatView) (id 
   pub answers-claim : (many : ℕ) → FitsClaim v many → AnswersClaim v (next_in words)
   answers-claim many fits =
       let fewer : sum_by full_width views ≤ sum_by width_of views
-      = total_le full_width width_of views (λ j u e. full-less u.full u.width) in
+      = total_le full_width width_of views (λ j u e. cond-most u.full u.width) in
       record {
         least = next-area bs words views id v b;
         most = omega (arith, b.state.widths.next, b.state.widths.sum, fewer, b.state.setting.ranges.workers.1);

@@ -19,6 +19,7 @@ use Rattle.tree_words.specs.Closing.{KeepsEnds, IsClosed}
 use Rattle.tree_words.specs.declared.layout.TheConstants.{TALLY_WORD, SEEN_WORD}
 use Rattle.tree_words.proofs.Blocks.GameLaws.{in-node}
 use Rattle.tree_words.proofs.Blocks.RootEnds.{root-end-first}
+use Rattle.tree_words.proofs.Walks.Countings.{cond-and, cond-most}
 use Rattle.arena_rule.specs.Views.{SeatView, HasEnded}
 use Rattle.arena_rule.specs.Adds.{walk_adds, amount_at, tally_amount}
 use Rattle.arena_rule.specs.Lookups.{adds_made}
@@ -104,21 +105,13 @@ module _ (bs : List LinkedBlock) (words : List ℕ) (views : List SeatView) (id 
         ∙ below_same n (λ k. amount_at (y + SEEN_WORD) (walk_adds v.shape bs k (leaf_of words k)))
         (λ k. cond (is_seen v.shape bs words c y k) (amount_of (is_same (outcome_in v.shape bs words k).winner (mover_of v.shape bs y))) 0)
         (λ k l. seen-amount v.shape bs b.state.linked.blocks.order k (leaf_of words k) c y i h
-        ∙ both (enters v.shape bs c (leaf_of words k))
+        ∙ sym (cond-and (enters v.shape bs c (leaf_of words k))
         (has_cell (stones_of (outcome_in v.shape bs words k).full (mover_of v.shape bs y)) (cell_at c (place c y)))
-        (amount_of (is_same (outcome_in v.shape bs words k).winner (mover_of v.shape bs y)))));
+        (amount_of (is_same (outcome_in v.shape bs words k).winner (mover_of v.shape bs y))))));
   }
-    where
-      both : (t u : Bool) (m : ℕ) → cond t (cond u m 0) 0 ≡ cond (t && u) m 0
-      both true u m = refl
-      both false u m = refl
 
   full-less : full_width v ≤ v.width
-  full-less = by v.full v.width
-    where
-      by : (t : Bool) (m : ℕ) → cond t m 0 ≤ m
-      by true m = omega arith
-      by false m = omega arith
+  full-less = cond-most v.full v.width
 
   ends : KeepsEnds v.shape words
   ends =

@@ -1,6 +1,6 @@
 -- A split and a join keep Sums, and the opening words have them.
 use Rattle.std.proofs.Common.{◌≡◌, ℕ, ◌+◌, ◌-◌, ◌*◌, ◌<◌, ◌≤◌, Bool, true, false, cond, List}
-use Rattle.std.proofs.Common.{Option, None, refl, sym, ap, ◌∙◌, ⊎_elim, arith}
+use Rattle.std.proofs.Common.{Option, None, sym, ap, ◌∙◌, ⊎_elim, arith}
 use Rattle.std.specs.Prelude.{◌==◌, ◌&&◌, slice_index, sum_by}
 use Rattle.std.proofs.lemmas.List.Sums.{sum_by-append}
 use Rattle.tree_words.specs.Settings.{Setting, IsSetting}
@@ -22,7 +22,7 @@ use Rattle.arena_rule.specs.Rule.{views_split, views_joined}
 use Rattle.arena_rule.proofs.Before.{Before, Other, AreFirst, opening_blocks}
 use Rattle.arena_rule.proofs.Totals.{total_none, total_split, total_join}
 use Rattle.arena_rule.proofs.SeatsNumbers.{ended-idle}
-use Rattle.std.proofs.lemmas.Bool.{eqb-true, ne_eqb, or_cases, false_from_ne_true}
+use Rattle.std.proofs.lemmas.Bool.{and_right, eqb-true, ne_eqb, or_cases, false_from_ne_true}
 
 -- sums that are the same at each word
 same-sums : (s : Setting) (bs : List LinkedBlock) (words : List ℕ) (views views' : List SeatView)
@@ -79,7 +79,7 @@ opening-blank s x i h n low high =
     (header_or_move c (x + i - c.start))
     (ne_eqb (x + i) 0 (λ e. omega (arith, e)))
     (ne_eqb (x + i) (root_at s + 1) (λ e. omega (arith, e, p.2)))
-    (neither (covers (x + i) c) (is_header_or_move (x + i - c.start)) (ap is_header_or_move is ∙ stays-not p.0 i (omega arith) high)))
+    (and_right (covers (x + i) c) (is_header_or_move (x + i - c.start)) (ap is_header_or_move is ∙ stays-not p.0 i (omega arith) high)))
     (λ (t : (x == root_at s) ≡ true).
     let e : x ≡ root_at s = eqb-true x (root_at s) t in
     let out : covers (x + i) c ≡ false
@@ -97,10 +97,6 @@ opening-blank s x i h n low high =
     blank : (p q r t : Bool) (k l m : ℕ) → p ≡ false → q ≡ false → (r && t) ≡ false
         → cond p k (cond q l (cond (r && t) m 0)) ≡ 0
     blank p q r t k l m e f g = λ i. cond (e i) k (cond (f i) l (cond (g i) m 0))
-
-    neither : (r t : Bool) → t ≡ false → (r && t) ≡ false
-    neither true t e = e
-    neither false t e = refl
 
 pub sums-first : (s : Setting) (views : List SeatView) → IsSetting s → AreFirst s views
     → Sums s (opening_blocks s) (opening_words s) views

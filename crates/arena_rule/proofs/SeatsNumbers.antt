@@ -28,10 +28,18 @@ use Rattle.arena_rule.proofs.Totals.{total_two, total_none, total_split, total_j
 use Rattle.arena_rule.proofs.Totals.{each-join}
 use Rattle.arena_rule.proofs.Numbers.{times_walked, value_walked, walked-append, value-append}
 use Rattle.arena_rule.proofs.Numbers.{contains-append, due}
+use Rattle.arena_rule.proofs.Within.{shape-of-each}
 use Rattle.tree_words.proofs.Blocks.Within.{node-first}
 
 no-walk : (w : Walked) → Contains [] w → ⊥
 no-walk w c = let l = c.1 in omega (arith, l)
+
+-- two widths, each counted if its test passes, are at most both, counted if one of the tests passes
+pub fulls : (s t : Bool) (a c : ℕ) → cond s a 0 + cond t c 0 ≤ cond (s || t) (a + c) 0
+fulls true true a c = omega arith
+fulls true false a c = omega arith
+fulls false true a c = omega arith
+fulls false false a c = omega arith
 
 -- a node of the second of two lists of blocks
 pub node-second : (r : ℕ) (ks ls : List LinkedBlock) (x : ℕ) → is_node r ls x ≡ true
@@ -42,9 +50,6 @@ node-second r (k ∷ ks) ls x n = or_right (has_node k x) (is_node r (ks ++ ls) 
 
 module _ (bs : List LinkedBlock) (words : List ℕ) (views : List SeatView) (id : ℕ) (v : SeatView)
     (b : Before bs words views id v) where
-  shape : (j : ℕ) (u : SeatView) → get_elem? views j ≡ some u → u.shape ≡ v.shape
-  shape j u e = (b.state.widths.each j u e).shape
-
   pub widths-split : (part : ℕ) → CanSplit v part
       → Widths v.shape words (views_split views id v part)
   unfolding kept_part
@@ -152,12 +157,6 @@ module _ (bs : List LinkedBlock) (words : List ℕ) (views : List SeatView) (id 
             (some-full v.full w.full v.width w.width (sum_by full_width views) (sum_by full_width (views_joined views id v other w)) b.live o.live total two h);
       }
     where
-      fulls : (s t : Bool) (a c : ℕ) → cond s a 0 + cond t c 0 ≤ cond (s || t) (a + c) 0
-      fulls true true a c = omega arith
-      fulls true false a c = omega arith
-      fulls false true a c = omega arith
-      fulls false false a c = omega arith
-
       some-full : (s t : Bool) (a c n m : ℕ) → 0 < a → 0 < c
           → m + cond s a 0 + cond t c 0 ≡ n + cond (s || t) (a + c) 0 + 0
           → cond s a 0 + cond t c 0 ≤ n → 0 < m → 0 < n
@@ -203,7 +202,7 @@ module _ (bs : List LinkedBlock) (words : List ℕ) (views : List SeatView) (id 
         leaves = λ q c. ⊎_elim
             (λ (h : Contains v.walks q). node-first (root_at v.shape) v.known w.known (leaf_in q.value) (mine.leaves q h))
             (λ (h : Contains w.walks q). node-second (root_at v.shape) v.known w.known (leaf_in q.value)
-            (subst (λ (s : Setting). is_node (root_at s) w.known (leaf_in q.value) ≡ true) (shape other w o.at) (theirs.leaves q h)))
+            (subst (λ (s : Setting). is_node (root_at s) w.known (leaf_in q.value) ≡ true) (shape-of-each bs words views id v b other w o.at) (theirs.leaves q h)))
             (contains-append q v.walks w.walks c);
       }
       record {

@@ -1,7 +1,7 @@
 -- A split and a join keep Room, and the first views have it.
 use Rattle.std.proofs.Common.{◌≡◌, ℕ, ◌+◌, ◌-◌, ◌*◌, ◌<◌, ◌≤◌, Bool, true, false, cond, List, []}
 use Rattle.std.proofs.Common.{◌∷◌, ◌++◌, refl, ap, arith}
-use Rattle.std.specs.Prelude.{◌==◌, ◌||◌}
+use Rattle.std.specs.Prelude.{◌==◌}
 use Rattle.std.proofs.Math.Nat.{add-mul, mul-le-mul_left}
 use Rattle.tree_words.specs.Settings.{Setting, IsSetting}
 use Rattle.tree_words.specs.Words.{root_at, next_in}
@@ -20,7 +20,7 @@ use Rattle.arena_rule.specs.Rule.{views_split, views_joined}
 use Rattle.arena_rule.proofs.Before.{Before, Other, AreFirst, opening_blocks}
 use Rattle.arena_rule.proofs.Totals.{total_none, total_split, total_join, each-split, each-join}
 use Rattle.arena_rule.proofs.Room.{KnowMore, known-le}
-use Rattle.arena_rule.proofs.SeatsNumbers.{ended-idle}
+use Rattle.arena_rule.proofs.SeatsNumbers.{ended-idle, fulls}
 
 -- a link that is known over the first of two lists of blocks, or over the second, is known over
 -- both
@@ -101,12 +101,6 @@ module _ (bs : List LinkedBlock) (words : List ℕ) (views : List SeatView) (id 
     where
       low : (c : LinkedBlock) → In c bs → 0 < c.start
       low c i = let l = (whole-in v.shape (next_in words) bs c b.state.linked.blocks.order b.state.linked.blocks.complete i).inside.0 in omega arith
-
-      fulls : (s t : Bool) (a c : ℕ) → cond s a 0 + cond t c 0 ≤ cond (s || t) (a + c) 0
-      fulls true true a c = omega arith
-      fulls true false a c = omega arith
-      fulls false true a c = omega arith
-      fulls false false a c = omega arith
 
 module _ (s : Setting) (views : List SeatView) (setting : IsSetting s)
     (first : AreFirst s views) where

@@ -2,7 +2,7 @@
 use Rattle.std.proofs.Common.{◌≡◌, ◌≢◌, ◌⊎◌, ℕ, ◌+◌, ◌<◌, ◌≤◌, Bool, true, false, cond, List, ◌∷◌}
 use Rattle.std.proofs.Common.{length, set, Some, None, refl, sym, ap, ◌∙◌, subst, ⊎_elim, inl, inr}
 use Rattle.std.proofs.Common.{arith, get_or-set_same, get_or-set_other}
-use Rattle.std.specs.Prelude.{◌==◌, ◌||◌, slice_index, sum_by, Contains}
+use Rattle.std.specs.Prelude.{◌==◌, slice_index, sum_by, Contains}
 use Rattle.std.proofs.lemmas.Bool.Decides.{nat_tests}
 use mathlib.Core.Option.{some, some-injective}
 use mathlib.Core.Logic.{dite}
@@ -32,21 +32,17 @@ use Rattle.arena_rule.proofs.Numbers.{times_walked, value_walked, walked-cons, v
 use Rattle.arena_rule.proofs.Numbers.{value-none, contains-cons, leaf-recorded, winner-recorded}
 use Rattle.arena_rule.proofs.Numbers.{due, due_one}
 use Rattle.arena_rule.proofs.Reach.{IsHigh, low-same}
-use Rattle.std.proofs.lemmas.Bool.{eq-eqb, ne_eqb}
+use Rattle.std.proofs.lemmas.Bool.{eq-eqb, ne_eqb, or_right}
 
 -- a record stays right if a block is linked
 pub right-more : (s : Setting) (c : LinkedBlock) (bs : List LinkedBlock) (w : Walked)
     → Follows (root_at s) c bs → IsRight s bs w → IsRight s (c ∷ bs) w
 right-more s c bs w f r = record {
-  node = second (has_node c (leaf_in w.value)) (is_node (root_at s) bs (leaf_in w.value)) r.node;
+  node = or_right (has_node c (leaf_in w.value)) (is_node (root_at s) bs (leaf_in w.value)) r.node;
   below = r.below;
   result = r.result
       ∙ sym (ap (λ (p : NodeState). (outcome_of s w.number p).winner) (spot-same s c bs (leaf_in w.value) f r.node));
 }
-  where
-    second : (a b : Bool) → b ≡ true → (a || b) ≡ true
-    second true b e = refl
-    second false b e = e
 
 next-due : (k x n : ℕ) → x < n → due k (x + 1) n ≡ due k x n + one_if (x == k)
 next-due k x n l = grind (arith, nat_tests)

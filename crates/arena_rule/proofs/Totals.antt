@@ -62,14 +62,10 @@ module _ {A : Type 0} where
   total_none f (x ∷ xs) h
       = omega (arith, sum_by-cons f x xs, h 0 x refl, total_none f xs (λ i v. h (suc i) v))
 
-  -- one element more, behind the others
-  pub total_push : (f : A → ℕ) (l : List A) (v : A) → sum_by f (l ++ v ∷ []) ≡ sum_by f l + f v
-  total_push f l v = sum_by_push f l v
-
   -- an element is cut in two
   pub total_split : (f : A → ℕ) (l : List A) (i : ℕ) (v a b : A) → get_elem? l i ≡ some v
       → sum_by f (set l i a ++ b ∷ []) + f v ≡ sum_by f l + f a + f b
-  total_split f l i v a b e = omega (arith, total_push f (set l i a) b, total_set f l i v a e)
+  total_split f l i v a b e = omega (arith, sum_by_push f (set l i a) b, total_set f l i v a e)
 
   -- two elements change
   pub total_join : (f : A → ℕ) (l : List A) (i j : ℕ) (v w a b : A) → j ≢ i → get_elem? l i ≡ some v

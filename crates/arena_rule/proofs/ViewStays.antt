@@ -3,7 +3,6 @@ use Rattle.std.proofs.Common.{◌≡◌, ◌≢◌, ◌⊎◌, ℕ, zero, suc, �
 use Rattle.std.proofs.Common.{cond, List, [], ◌∷◌, Option, Some, None, refl, sym, ap, ◌∙◌, subst}
 use Rattle.std.proofs.Common.{⊎_elim, inl, inr, arith}
 use Rattle.std.specs.Prelude.{◌==◌, ◌&&◌, nat_le, nat_lt, option_map}
-use Rattle.std.proofs.lemmas.Bool.Decides.{nat_tests}
 use Rattle.tree_words.specs.Settings.{Setting, IsSetting}
 use Rattle.tree_words.specs.Words.{root_at, area_at, end_of}
 use Rattle.tree_words.specs.Blocks.{LinkedBlock, In, InOrder, has_node, is_node, size, covers}
@@ -23,6 +22,7 @@ use Rattle.arena_rule.specs.Answers.{MayAnswer, AnswersLook, AnswersClaim, Answe
 use Rattle.arena_rule.specs.Answers.{AnswersLink, MayLieBelow}
 use Rattle.arena_rule.specs.IsView.{AreTold, IsJoined, IsView}
 use Rattle.arena_rule.proofs.Changes.{drew_cases, claimed_cases, drew_same, claimed_same}
+use Rattle.arena_rule.proofs.Frames.{in-range}
 use Rattle.arena_rule.proofs.Options.{none-some, some-eq, false-true}
 use Rattle.arena_rule.proofs.Apart.{told-size}
 use Rattle.arena_rule.proofs.KnownMore.{Grows, known_cases, known-more}
@@ -141,11 +141,8 @@ module _ (v : SeatView) (iv : IsView v) where
             omega (arith, in_area.0, fits.start),
             omega (arith, in_area.1, fits.start, wide),
             λ i h. let q = covers_of i (told_below v x c) h in
-                iv.apart i (ap (λ (o : Option HeldBlock). is_held o i) fits.held ∙ within fits.block.start fits.block.size i (omega (arith, q.0, fits.start)) (omega (arith, q.1, fits.start, wide))),
+                iv.apart i (ap (λ (o : Option HeldBlock). is_held o i) fits.held ∙ in-range fits.block.start fits.block.size i (omega (arith, q.0, fits.start)) (omega (arith, q.1, fits.start, wide))),
           )
-        where
-          within : (a n i : ℕ) → a ≤ i → i < a + n → (nat_le a i && nat_lt i (a + n)) ≡ true
-          within a n i p q = grind (arith, nat_tests)
 
   stays-draw : (x : ℕ) → FitsDraw v → IsView (after v Draw x)
   unfolding with_word

@@ -1,6 +1,6 @@
 -- What a view's known blocks tell, the linked blocks tell too: nodes, boards and the adds of walks.
-use Rattle.std.proofs.Common.{◌≡◌, ℕ, Bool, true, false, List, ◌∷◌, refl, ap, ◌∙◌}
-use Rattle.std.specs.Prelude.{◌||◌}
+use Rattle.std.proofs.Common.{◌≡◌, ℕ, true, List, ◌∷◌, ap, ◌∙◌}
+use Rattle.std.proofs.lemmas.Bool.{or_right}
 use mathlib.Core.Option.{some}
 use lib.ListN.{get_elem?}
 use Rattle.tree_words.specs.Settings.{Setting}
@@ -30,11 +30,7 @@ within-adds s bs ks k leaf g kn n =
 -- a node stays one if one more block is known
 pub node-more : (r : ℕ) (d : LinkedBlock) (ks : List LinkedBlock) (x : ℕ) → is_node r ks x ≡ true
     → is_node r (d ∷ ks) x ≡ true
-node-more r d ks x n = second (has_node d x) n
-  where
-    second : (a : Bool) {b : Bool} → b ≡ true → (a || b) ≡ true
-    second true e = refl
-    second false e = e
+node-more r d ks x n = or_right (has_node d x) (is_node r ks x) n
 
 module _ (bs : List LinkedBlock) (words : List ℕ) (views : List SeatView) (id : ℕ) (v : SeatView)
     (b : Before bs words views id v) where

@@ -53,6 +53,21 @@ in-cover (b ∷ bs) c i n h = ⊎_elim
     (λ (e : c ≡ b). omega (arith, cover-cons i b bs, ap one_if (ap (covers i) (sym e) ∙ h)))
     (λ (m : In c bs). omega (arith, cover-cons i b bs, in-cover bs c i m h)) n
 
+-- two blocks with a word in common are one
+pub covers-one : (r : ℕ) (bs : List LinkedBlock) (b c : LinkedBlock) (i : ℕ) → InOrder r bs
+    → In b bs → In c bs → covers i b ≡ true → covers i c ≡ true → b ≡ c
+covers-one r [] b c i g m n h k = absurd m
+covers-one r (d ∷ bs) b c i g m n h k = ⊎_elim
+    (λ (e : b ≡ d). ⊎_elim
+    (λ (f : c ≡ d). e ∙ sym f)
+    (λ (f : In c bs). let z = g.0.clear i (ap (covers i) (sym e) ∙ h) in absurd (omega (arith, z, in-cover bs c i f k)))
+    n)
+    (λ (e : In b bs). ⊎_elim
+    (λ (f : c ≡ d). let z = g.0.clear i (ap (covers i) (sym f) ∙ k) in absurd (omega (arith, z, in-cover bs b i e h)))
+    (λ (f : In c bs). covers-one r bs b c i g.1 e f h k)
+    n)
+    m
+
 -- a header word or a move word is no link, tally or seen word of a node
 pub stays-clear : (r : ℕ) (bs : List LinkedBlock) (c : LinkedBlock) (i x j : ℕ) → InOrder r bs
     → In c bs → i < size c → is_header_or_move i ≡ true → is_node r bs x ≡ true → 1 ≤ j → j < 4

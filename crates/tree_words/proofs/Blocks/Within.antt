@@ -2,7 +2,7 @@
 -- linked one.
 use Rattle.std.proofs.Common.{◌≡◌, ℕ, ◌<◌, ◌≤◌, Bool, true, false, cond, List, [], ◌∷◌, ◌++◌, refl}
 use Rattle.std.proofs.Common.{sym, ap, ◌∙◌, subst, ⊎_elim, inl, inr, arith}
-use Rattle.std.specs.Prelude.{◌||◌, ◌==◌}
+use Rattle.std.specs.Prelude.{◌==◌}
 use Rattle.hex_cells.proofs.Bits.{same_set}
 use Rattle.hex_board.specs.Positions.{Position}
 use Rattle.play_out.specs.Fills.{empties_of}
@@ -13,7 +13,7 @@ use Rattle.tree_words.specs.Blocks.{cell_at}
 use Rattle.tree_words.specs.Paths.{NodeState, root_state, state_after, node_state, node_board}
 use Rattle.tree_words.specs.Complete.{Linked, cells_below, allowed_cells, set_of}
 use Rattle.tree_words.specs.Told.{told_block, Knows}
-use Rattle.std.proofs.lemmas.Bool.{eqb-true, cases_Bool, or_cases}
+use Rattle.std.proofs.lemmas.Bool.{eqb-true, cases_Bool, or_cases, or_left, or_right}
 use Rattle.tree_words.proofs.Blocks.BlockLaws.{clash, root_node}
 use Rattle.tree_words.proofs.Blocks.GameLaws.{IsWhole, in-node, up-in, whole-in}
 use Rattle.tree_words.proofs.Boards.EmptyLaws.{up-root}
@@ -65,17 +65,9 @@ pub node-first : (r : ℕ) (ks ls : List LinkedBlock) (x : ℕ) → is_node r ks
 node-first r [] ls x n = subst (λ (y : ℕ). is_node r ls y ≡ true) (sym (eqb-true x r n))
     (root_node r ls)
 node-first r (k ∷ ks) ls x n = ⊎_elim
-    (λ (h : has_node k x ≡ true). first (has_node k x) (is_node r (ks ++ ls) x) h)
-    (λ (h : is_node r ks x ≡ true). second (has_node k x) (is_node r (ks ++ ls) x) (node-first r ks ls x h))
+    (λ (h : has_node k x ≡ true). or_left (has_node k x) (is_node r (ks ++ ls) x) h)
+    (λ (h : is_node r ks x ≡ true). or_right (has_node k x) (is_node r (ks ++ ls) x) (node-first r ks ls x h))
     (or_cases (has_node k x) (is_node r ks x) n)
-  where
-    first : (a b : Bool) → a ≡ true → (a || b) ≡ true
-    first true b e = refl
-    first false b e = absurd (clash false e refl)
-
-    second : (a b : Bool) → b ≡ true → (a || b) ≡ true
-    second true b e = refl
-    second false b e = e
 
 -- what two know, together
 pub knows-both : (r : ℕ) (bs ks ls : List LinkedBlock) → Knows r bs ks → Knows r bs ls

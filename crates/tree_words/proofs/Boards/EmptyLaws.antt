@@ -5,11 +5,12 @@ use Rattle.std.proofs.Common.{arith, ◌-◌, length-append}
 use Rattle.std.specs.Prelude.{◌==◌}
 use Rattle.hex_cells.specs.Sets.{has as has_cell, members}
 use Rattle.hex_cells.proofs.Bits.{below_from_items}
+use Rattle.hex_cells.proofs.Counts.{members_flat}
 use Rattle.hex_board.specs.Positions.{Position, is_empty_at}
 use Rattle.play_out.specs.Fills.{empties_of}
 use Rattle.tree_words.specs.Settings.{Setting, IsSetting}
 use Rattle.tree_words.specs.Words.{root_at, move_word, cell_in}
-use Rattle.tree_words.specs.Blocks.{LinkedBlock, one_if, place, cell_at, InOrder, up}
+use Rattle.tree_words.specs.Blocks.{LinkedBlock, place, cell_at, InOrder, up}
 use Rattle.tree_words.specs.Paths.{NodeState, root_state, state_after, node_board}
 use Rattle.tree_words.specs.Complete.{allowed_cells, cells_below, HasEmpties}
 use Rattle.std.proofs.lemmas.Bool.{eqb-true, cases_Bool, false_from_ne_true}
@@ -77,16 +78,6 @@ members-listed set (suc n)
     one true n = refl
     one false n = refl
 
-members-past : (set m d : ℕ) → ((k : ℕ) → m ≤ k → has_cell set k ≡ false)
-    → members set (m + d) ≡ members set m
-unfolding members
-members-past s m zero h = ap (members s) (omega arith)
-members-past s m (suc d) h
-    = omega (arith, ap (members s) (shift m d), ap one_if (h (m + d) (omega arith)), members-past s m d h)
-  where
-    shift : (m d : ℕ) → m + suc d ≡ suc (m + d)
-    shift m d = omega arith
-
 pub empties-listed : (set : ℕ) (p : Position) → ((k : ℕ) → has_cell set k ≡ is_empty_at p k)
     → listed p.size set ≡ empties_of p
 unfolding empties_of
@@ -99,7 +90,7 @@ count_empties set p l e =
     let n : ℕ = p.size * p.size in
     let most : n ≤ 11 * 11 = mul-le-mul l l in
     let past : members set (n + (121 - n)) ≡ members set n
-    = members-past set n (121 - n)
+    = members_flat set n (121 - n)
     (λ k m. false_from_ne_true (has_cell set k) (λ t. let on : k < n = empty_on p k (sym (e k) ∙ t) in omega arith)) in
     ap (members set) (rest n most) ∙ past ∙ members-listed set n
     ∙ ap length (empties-listed set p e)

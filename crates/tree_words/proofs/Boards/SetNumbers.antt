@@ -2,6 +2,7 @@
 use Rattle.std.proofs.Common.{◌≡◌, ℕ, ◌+◌, ◌≤◌, ◌==◌, Bool, true, false, cond, List, [], ◌∷◌}
 use Rattle.std.proofs.Common.{count_by, nat_lt, refl, sym, ap, ◌∙◌, ⊎_elim, arith}
 use Rattle.std.specs.Prelude.{◌||◌}
+use Rattle.std.proofs.Math.Bool.{or-false}
 use Rattle.std.proofs.lemmas.Bool.Decides.{nat_tests}
 use Rattle.hex_cells.specs.Sets.{has as has_cell}
 use Rattle.hex_cells.proofs.Bits.{has_none}
@@ -24,15 +25,11 @@ set_items (c ∷ cs) k =
     ∙ ap (λ (t : Bool). nat_lt 0 (count_by (λ d. d == k) cs) || t) (same_eq k c)
     ∙ ⊎_elim
     (λ (t : (c == k) ≡ true). ap (λ (u : Bool). nat_lt 0 (count_by (λ d. d == k) cs) || u) t ∙ here (count_by (λ d. d == k) cs) (count_by (λ d. d == k) (c ∷ cs)) (counted_here k c cs (eqb-true c k t)))
-    (λ (t : (c == k) ≡ false). ap (λ (u : Bool). nat_lt 0 (count_by (λ d. d == k) cs) || u) t ∙ later (nat_lt 0 (count_by (λ d. d == k) cs)) ∙ sym (ap (nat_lt 0) (counted_later k c cs (λ e. clash (c == k) (eq-eqb c k e) t))))
+    (λ (t : (c == k) ≡ false). ap (λ (u : Bool). nat_lt 0 (count_by (λ d. d == k) cs) || u) t ∙ or-false (nat_lt 0 (count_by (λ d. d == k) cs)) ∙ sym (ap (nat_lt 0) (counted_later k c cs (λ e. clash (c == k) (eq-eqb c k e) t))))
     (cases_Bool (c == k))
   where
     here : (n m : ℕ) → m ≡ 1 + n → (nat_lt 0 n || true) ≡ nat_lt 0 m
     here n m e = grind (arith, nat_tests)
-
-    later : (t : Bool) → (t || false) ≡ t
-    later true = refl
-    later false = refl
 
 pub set_empties : (p : Position) (k : ℕ) → has_cell (set_of (empties_of p)) k ≡ is_empty_at p k
 set_empties p k =

@@ -1,9 +1,10 @@
 -- What the opening words show: the root's block, and the first tree.
-use Rattle.std.proofs.Common.{◌≡◌, ◌⊎◌, ℕ, ◌+◌, ◌-◌, ◌*◌, ◌<◌, ◌≤◌, Bool, true, false, cond, List}
+use Rattle.std.proofs.Common.{◌≡◌, ◌⊎◌, ℕ, ◌+◌, ◌-◌, ◌*◌, ◌<◌, ◌≤◌, Bool, true, cond, List}
 use Rattle.std.proofs.Common.{[], ◌∷◌, length, get_or, refl, sym, ap, ◌∙◌, subst, ⊎_elim, inl}
 use Rattle.std.proofs.Common.{arith}
-use Rattle.std.specs.Prelude.{◌==◌, ◌&&◌, ◌||◌}
-use Rattle.std.proofs.lemmas.Bool.{cases_lt, eqb-true, eq-eqb, ne_eqb, or_cases, false_from_ne_true}
+use Rattle.std.specs.Prelude.{◌==◌, ◌&&◌}
+use Rattle.std.proofs.lemmas.Bool.{cases_lt, eqb-true, eq-eqb, ne_eqb, or_cases, or_left}
+use Rattle.std.proofs.lemmas.Bool.{false_from_ne_true}
 use Rattle.std.proofs.lemmas.List.{get_or_past}
 use Rattle.hex_cells.specs.Sets.{has as has_cell}
 use Rattle.play_out.specs.Fills.{empties_of}
@@ -153,17 +154,10 @@ module _ (s : Setting) (words : List ℕ) (e : ℕ) (set : IsSetting s) (empties
       let q : ℕ → Count = seen_in words in
       let row : row_of (λ y d. node d (p y) (q y) done) (c.start + 4) c.cells ≡ fresh c.cells
       = row-fresh p q (c.start + 4) c.cells
-      (λ k y l i. no-counts y (first_true (has_node c y) (y == r) (ap (has_node c) i ∙ child-has c k l))) in
+      (λ k y l i. no-counts y (or_left (has_node c y) (y == r) (ap (has_node c) i ∙ child-has c k l))) in
       let root : p r ≡ nothing = ap count_in (root-word 2 (omega arith) (λ z. omega arith)) in
       let tree : tree_in r (config_of (c ∷ []) words) ≡ node 0 nothing nothing (fresh c.cells)
       = ap (λ (f : ℕ → Count → Tree). f 0 nothing)
       (down-here (tree_leaf p) (tree_inner p q) c [] r (eq-eqb r r refl))
       ∙ (λ i. node 0 (root i) nothing (row i)) in
       λ i. (tree i, next-is i)
-    where
-      first_true : (a b : Bool) → a ≡ true → (a || b) ≡ true
-      first_true true b e = refl
-      first_true false b e = absurd (no e)
-        where
-          no : false ≡ true → ⊥
-          no e = cc

@@ -1,7 +1,7 @@
 -- The counts along the way of a walk.
 use Rattle.std.proofs.Common.{◌≡◌, ℕ, ◌+◌, ◌≤◌, ◌<◌, ◌^◌, Bool, true, false, cond, List, [], ◌∷◌}
-use Rattle.std.proofs.Common.{◌++◌, refl, sym, ap, ◌∙◌, ⊎_elim, inl, inr, arith}
-use Rattle.std.specs.Prelude.{◌==◌}
+use Rattle.std.proofs.Common.{◌++◌, refl, ap, ◌∙◌, inl, inr, arith}
+use Rattle.std.specs.Prelude.{◌==◌, ◌&&◌}
 use Rattle.hex_cells.specs.Sets.{has as has_cell}
 use Rattle.hex_cells.specs.Colours.{is_same}
 use Rattle.hex_board.specs.Positions.{stones_of}
@@ -16,9 +16,9 @@ use Rattle.tree_words.specs.Sequence.{one, gain_of, glimpse_of, search_game, amo
 use Rattle.tree_words.specs.Descents.{pick, adds_leaf, adds_inner, adds, sees_leaf, sees_inner}
 use Rattle.tree_words.specs.Descents.{sees}
 use Rattle.std.proofs.lemmas.Bool.{eqb-true, ne_eqb}
-use Rattle.tree_words.proofs.Blocks.BlockLaws.{apart, clash}
+use Rattle.tree_words.proofs.Blocks.BlockLaws.{has-covers}
 use Rattle.tree_words.proofs.Walks.Down.{down-split}
-use Rattle.tree_words.proofs.Blocks.GameLaws.{in-node}
+use Rattle.tree_words.proofs.Blocks.NodeLaws.{covers-one}
 
 -- a count with one more, and the word that has it
 pub count-more : (n : ℕ) (t : Bool) → wins_in n + 1 < 2 ^ 32
@@ -37,6 +37,16 @@ count-more n false l = λ i. record { visits = v n i; wins = w n i }
 
     w : (n : ℕ) → wins_in (n + (2 ^ 32 + 0)) ≡ wins_in n + 0
     w n = omega arith
+
+-- an amount that counts if a test passes
+pub cond-most : (t : Bool) (n : ℕ) → cond t n 0 ≤ n
+cond-most true n = omega arith
+cond-most false n = omega arith
+
+-- two tests, one in the other
+pub cond-and : (t u : Bool) (n : ℕ) → cond (t && u) n 0 ≡ cond t (cond u n 0) 0
+cond-and true u n = refl
+cond-and false u n = refl
 
 -- each walk adds at most one to a count
 gain-one : (o : Ending) (p : NodeState) → AtMost 1 (gain_of o p)
@@ -80,17 +90,8 @@ above-turned r (b ∷ bs) g = above-snoc b (oldest_first bs) (above-turned r bs 
 -- two blocks with a node in common are one
 pub has-one : (r : ℕ) (bs : List LinkedBlock) (b c : LinkedBlock) (w : ℕ) → InOrder r bs → In b bs
     → In c bs → has_node b w ≡ true → has_node c w ≡ true → b ≡ c
-has-one r [] b c w g i j hb hc = absurd i
-has-one r (d ∷ bs) b c w g i j hb hc = ⊎_elim
-    (λ (e : b ≡ d). ⊎_elim
-    (λ (f : c ≡ d). e ∙ sym f)
-    (λ (f : In c bs). absurd (clash (has_node d w) (ap (λ (a : LinkedBlock). has_node a w) (sym e) ∙ hb) (apart r d bs w g.0 (in-node r bs c w f hc))))
-    j)
-    (λ (e : In b bs). ⊎_elim
-    (λ (f : c ≡ d). absurd (clash (has_node d w) (ap (λ (a : LinkedBlock). has_node a w) (sym f) ∙ hc) (apart r d bs w g.0 (in-node r bs b w e hb))))
-    (λ (f : In c bs). has-one r bs b c w g.1 e f hb hc)
-    j)
-    i
+has-one r bs b c w g i j hb hc = covers-one r bs b c (w + 0) g i j
+    (has-covers b w 0 hb (omega arith)) (has-covers c w 0 hc (omega arith))
 
 module _ (s : Setting) (p q : ℕ → Count) (o : Ending) where
   pub adds-one : (os : List LinkedBlock) (x : ℕ) (u : NodeState) (w : ℕ)

@@ -4,7 +4,6 @@ use Rattle.std.proofs.Common.{List, [], ◌∷◌, ◌++◌, length, map, refl, 
 use Rattle.std.proofs.Common.{inl, inr, arith}
 use Rattle.std.specs.Prelude.{◌==◌, ◌||◌, not}
 use Rattle.std.specs.List.{list_any, position_or_len}
-use Rattle.std.proofs.lemmas.Bool.Decides.{nat_tests}
 use Rattle.uct_table.specs.Choice.{Child, is_unvisited, score_in, first_of_largest, choice_of}
 use Rattle.tree_words.specs.Settings.{Setting}
 use Rattle.tree_words.specs.Words.{Count, root_at}
@@ -19,6 +18,7 @@ use Rattle.tree_words.specs.Complete.{HaveNodes}
 use Rattle.tree_words.specs.Descents.{pairs_of, pick, leaf_inner, leaf_at, state_at, adds, sees}
 use Rattle.tree_words.specs.Descents.{top, Out, Sprouts, Names, Inside}
 use Rattle.std.proofs.lemmas.Bool.{eqb-true, eq-eqb, ne_eqb, cases_Bool, or_cases, or_from}
+use Rattle.std.proofs.lemmas.Bool.{or_right}
 use Rattle.tree_words.proofs.Blocks.BlockLaws.{clash}
 use Rattle.tree_words.proofs.Walks.Down.{Fair, child-has, pick-in, down-here, down-else, down-split}
 use Rattle.tree_words.proofs.Walks.WalkLaws.{out-snoc, no-has}
@@ -194,10 +194,7 @@ any-unvisited p q a y zero (c ∷ cs) l e z = let at : y ≡ a = omega arith in
     (ap (λ (x : ℕ). (p x).visits) (sym at) ∙ z)
 any-unvisited p q a y (suc k) (c ∷ cs) l e z =
     let rest = any-unvisited p q (a + 4) y k cs (omega arith) (omega arith) z in
-    either ((p a).visits == 0) (list_any is_unvisited (map child_of (pairs_of p q (a + 4) cs))) rest
-  where
-    either : (t u : Bool) → u ≡ true → (t || u) ≡ true
-    either t u e = grind (arith, nat_tests)
+    or_right ((p a).visits == 0) (list_any is_unvisited (map child_of (pairs_of p q (a + 4) cs))) rest
 
 first-unvisited : (p q : ℕ → Count) (a : ℕ) (cs : List ℕ)
     → list_any is_unvisited (map child_of (pairs_of p q a cs)) ≡ true

@@ -215,7 +215,8 @@ module _ (s : Setting) (n : LinkedBlock) (bs : List LinkedBlock)
         ∙ sym (ap (λ (p : NodeState). (outcome_of s j p).winner) (spot-same s n bs (leaf_of words j) f is.node));
   }
 
-more_visits : (t u : Bool) (c : Count)
+-- one playout more
+pub more_visits : (t u : Bool) (c : Count)
     → record { visits = c.visits + one_if t; wins = c.wins + one_if (t && u) } ≡ plus c
     (cond t (one u) nothing)
 more_visits true u c = refl
