@@ -1,4 +1,4 @@
--- The reasons against `and` and `key`, where both entries are there and stand in the scope.
+-- The reasons against `and` and `key`, if both entries are there and stand in the scope.
 use Rattle.std.proofs.Common.{◌≡◌, ℕ, ◌<◌, ◌==◌, List, [], ◌∷◌, ◌||◌, not, Option, Some, None, Bool}
 use Rattle.std.proofs.Common.{true, false, refl, sym, ◌∙◌, ap, subst, bit_or, if◌then◌else◌}
 use Rattle.std.specs.List.{list_all}
@@ -82,7 +82,7 @@ two_carriers a b = ap (bit_or a.carrier) (or_zero_r b.carrier)
 
 -- ---- by the checker's tests
 
--- the reason where the two entries have the middle u: whether the carriers meet, whether one of the
+-- the reason if the two entries have the middle u: whether the carriers meet, whether one of the
 -- other ends x and y is in the other carrier, and whether the middle is of the other sort
 pub joined : {c : Context} {o : Bool} {i j u x y : ℕ} {a b : Given} {m : Option ℕ} {meet inside wrong : Bool} → AreBothNamed c o i j a b
     → m ≡ middle_of (entry_of a) (entry_of b) → m ≡ Some u
@@ -167,7 +167,7 @@ other_below c a u s g = pick (a.x == u) a.y a.x (element_count (elements_at c))
     (subst (λ t. a.y < element_count (elements_in c.base t)) s g.y)
     (subst (λ t. a.x < element_count (elements_in c.base t)) s g.x)
 
--- one of the two where it alone is shared
+-- one of the two if it alone is shared
 abbrev shared : Bool → Bool → ℕ → ℕ → Option ℕ
 shared p q x y = if p then (if q then None else Some x) else (if q then Some y else None)
 

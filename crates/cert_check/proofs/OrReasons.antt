@@ -92,13 +92,13 @@ named_first {rest = rest} c are is found = ap (entries_at c) are
 same_self : (a : ScopedEntry) → same_ends a a ≡ true
 same_self a = and_from (a.x == a.x) (a.y == a.y) (eq-eqb a.x a.x refl) (eq-eqb a.y a.y refl)
 
--- all have the same elements where all have those of the first
+-- all have the same elements if all have those of the first
 pub same_as_first : (a : ScopedEntry) (rest entries : List ScopedEntry) → entries ≡ a ∷ rest
     → list_all (same_ends a) entries ≡ have_same_ends entries
 same_as_first a rest entries e = ap (list_all (same_ends a)) e
     ∙ ap (λ b. b && list_all (same_ends a) rest) (same_self a) ∙ ap have_same_ends (sym e)
 
--- the elements of the first are some of the scope's board, where all are in the scope
+-- the elements of the first are some of the scope's board, if all are in the scope
 pub first_ends : {inside : Bool} {q : Option Given} {a : Given} {rest : List ScopedEntry}
     (c : Context) (entries : List ScopedEntry) → entries ≡ entry_of a ∷ rest
     → inside ≡ list_all (λ e. e.scope == c.scope) entries → inside ≡ true → q ≡ Some a

@@ -33,7 +33,7 @@ pub told_next : (b : Bool) (r : Reason) (o p : Option Reason) → b ≡ false �
 told_next true r o p h e = absurd (true≢false h)
 told_next false r o p h e = e
 
--- no reason is told where the test fails
+-- no reason is told if the test fails
 pub told_none : (b : Bool) (r : Reason) (o : Option Reason) → told b r o ≡ None → b ≡ false
 told_none true r o h = absurd (cc)
 told_none false r o h = refl

@@ -16,7 +16,7 @@ pub carriers_more : (a : ScopedEntry) (entries : List ScopedEntry) (k : ℕ)
     → has (carriers_of (a ∷ entries)) k ≡ (has a.carrier k || has (carriers_of entries) k)
 carriers_more a entries k = has_or a.carrier (carriers_of entries) k
 
--- no cell is in all carriers exactly where the set of those that are is empty
+-- no cell is in all carriers exactly if the set of those that are is empty
 pub none_shared : (entries : List ScopedEntry) (common : ℕ) (empty : Bool)
     → ((k : ℕ) → has common k ≡ (nat_lt k MOST_CELLS && list_all (λ a. has a.carrier k) entries))
     → (IsTrue empty ↔ ((k : ℕ) → has common k ≡ false))

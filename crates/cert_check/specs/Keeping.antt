@@ -28,7 +28,7 @@ pub record IsGivenOn (base : PlayerBoard) (g : Given) : Type 0 where
   pub y : g.y < element_count (elements_in base g.scope)
   pub edges : g.of_edges ≡ is_edge_entry base (entry_of g)
 
--- the same, where something was given
+-- the same, if something was given
 abbrev pub IsGivenOnIf : PlayerBoard → Option Given → Type 0
 IsGivenOnIf base None = Unit {0}
 IsGivenOnIf base (Some g) = IsGivenOn base g
@@ -59,11 +59,11 @@ DerivesLine c line (Ok g) =
     × IsGivenOn c.base g
 DerivesLine c line (Err reason) = reason_against c (Derivation line) ≡ Some reason
 
--- the statement takes entries of this kind, and of two elements where `apart` holds
+-- the statement takes entries of this kind, and of two elements if `apart` holds
 abbrev pub TakesKind : Statement → Kind → Bool → Type 0
 TakesKind s kind apart = (kind_taken s ≡ kind) × ((is_chain s || is_or s) ≡ apart)
 
--- `key` where the middle is to be a cell, else `and`
+-- `key` if the middle is to be a cell, else `and`
 abbrev pub chain_line : Bool → ℕ → ℕ → Line
 chain_line true i j = Key i j
 chain_line false i j = And i j

@@ -37,7 +37,7 @@ pub numbers_push : (n : ℕ) (kind : Kind) (x y : ℕ) (entries : List Entry) (a
     (is_of kind x y a) (n + length entries)
 numbers_push n kind x y entries a = numbers_over n kind x y entries (a ∷ [])
 
--- entry i, where the first has the number n, is of that kind and pair
+-- entry i, if the first has the number n, is of that kind and pair
 abbrev pub IsListed : ℕ → Kind → ℕ → ℕ → List Entry → ℕ → Type 0
 IsListed n kind x y entries number =
     (i : ℕ) × (a : Entry) × (number ≡ n + i) × (slice_get entries i ≡ Some a)

@@ -1,4 +1,4 @@
--- What the four rules give is true where what it follows from is true.
+-- What the four rules give is true if what it follows from is true.
 use Rattle.std.proofs.Common.{◌≡◌, ℕ, ◌+◌, ◌<◌, ◌&&◌, min, max, bit_or, true, Bool, List, [], ◌∷◌}
 use Rattle.std.proofs.Common.{take, Some, All, sym, subst, inl, inr, ◌⊎◌, zero, suc, arith}
 use Rattle.std.specs.List.{slice_get}

@@ -18,7 +18,7 @@ use Rattle.conn_store.specs.declared.entries.Kind.{Kind}
 use Rattle.conn_store.specs.declared.entries.Kind.TheVariants.{Full, Semi}
 use Rattle.conn_store.proofs.Sureness.{in_without, without_inside, more_stones}
 
--- who is to move: the opponent where the player is sure all the same
+-- who is to move: the opponent if the player is sure all the same
 abbrev pub mover_of : Kind → Colour → Colour
 mover_of Full player = other_of player
 mover_of Semi player = player

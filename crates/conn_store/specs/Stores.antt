@@ -42,7 +42,7 @@ same_kind Semi Semi = true
 abbrev pub is_of : Kind → ℕ → ℕ → Entry → Bool
 is_of kind x y entry = same_kind entry.kind kind && (entry.x == x && entry.y == y)
 
--- the numbers of the entries of that kind and pair, in rising order, where the first entry has
+-- the numbers of the entries of that kind and pair, in rising order, if the first entry has
 -- the number n
 abbrev pub numbers_from : ℕ → Kind → ℕ → ℕ → List Entry → List ℕ
 numbers_from n kind x y [] = []

@@ -523,7 +523,7 @@ head_number e h a b f i j q
 pub high_edge : (b x v : ℕ) → v < b → v ≡ b + x → ⊥
 high_edge b x v h e = absurd (omega arith)
 
--- the cells of an element without an edge: its least cell alone where that is empty, else the
+-- the cells of an element without an edge: its least cell alone if that is empty, else the
 -- stones that are linked to it
 pub head_out : (e : PlayerBoard) (h a k : ℕ) → Within e.board.size (stones_of e.board e.player)
     → ((j : ℕ) → has h j ≡ is_head e j) → is_head e a ≡ true

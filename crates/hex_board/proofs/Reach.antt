@@ -32,7 +32,7 @@ leads_here n s g k h e = ([], h, e)
 pub leads_on : (n s g k c : ℕ) → has s k ≡ true → Neighbour n c k → Leads n s g c → Leads n s g k
 leads_on n s g k c h b l = (c ∷ l.0, (h, back n c k b, l.1), l.2)
 
--- where no stone beside reach is left out, reach holds each cell from which a path leads to the
+-- if no stone beside reach is left out, reach holds each cell from which a path leads to the
 -- goal
 pub all_reached : (n s g reach : ℕ)
     → ((k : ℕ) → has g k ≡ true → has s k ≡ true → has reach k ≡ true)
@@ -90,7 +90,7 @@ joined_reaches n p s g e r hg he hr j =
     let f : has e j.0 ≡ true = he j.0 ∙ j.3 in
     and_from (has r j.0) (has e j.0) ((hr j.0).1 (j.1, j.2, l)) f
 
--- the player is joined where what leads to one edge meets the other
+-- the player is joined if what leads to one edge meets the other
 pub meets_joined : (n : ℕ) (p : Colour) (s g e r : ℕ) (m : Bool)
     → ((k : ℕ) → has g k ≡ on_edge p true n k)
     → ((k : ℕ) → has e k ≡ on_edge p false n k) → ((d : ℕ) → IsTrue (has r d) ↔ Leads n s g d)

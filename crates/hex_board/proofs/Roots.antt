@@ -54,7 +54,7 @@ pub leads_from : (n s g c k : ℕ) → ((j : ℕ) → has g j ≡ (false || j ==
     → Leads n s g k
 leads_from n s g c k e l = (l.0, l.1, e (last_of k l.0) ∙ eq-eqb _ c l.2)
 
--- the roots found, where the cells of rest, whole groups, are still to come
+-- the roots found, if the cells of rest, whole groups, are still to come
 pub record Found (n s roots rest : ℕ) : Type 0 where
   pub within : (k : ℕ) → has rest k ≡ true → has s k ≡ true
   pub whole : (a b : ℕ) → has rest a ≡ true → Links n s a b → has rest b ≡ true

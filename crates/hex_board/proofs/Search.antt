@@ -1,4 +1,4 @@
--- The search of paths, cell by cell, finds one where there is one.
+-- The search of paths, cell by cell, finds one if there is one.
 use Rattle.std.proofs.Common.{◌≡◌, ℕ, ◌+◌, ◌*◌, ◌<◌, ◌≤◌, ◌≢◌, ◌==◌, ◌&&◌, ◌||◌, ◌⊎◌, ◌↔◌, IsTrue}
 use Rattle.std.proofs.Common.{not, true, false, Bool, List, [], ◌∷◌, refl, sym, ◌∙◌, ap, subst}
 use Rattle.std.proofs.Common.{arith, inl, inr, zero, suc}
@@ -59,7 +59,7 @@ leads_out (suc fuel) n s test x h =
           (w.0 ∷ r.0, (t.0, neighbour_out n x w.0 u.0, path_wider n (without_cell s x) s w.0 r.0 (less_in s x) r.1), r.2)
     ]
 
--- ---- and where there is a path it answers yes
+-- ---- and if there is a path it answers yes
 
 -- from x one can leave: x passes, or a neighbour has a path without x
 abbrev Exit : ℕ → ℕ → (ℕ → Bool) → ℕ → Type 0

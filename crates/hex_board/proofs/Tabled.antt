@@ -50,7 +50,7 @@ beside e x part a b u k n q hp ha hb hu = (
     parts e x k (at_cell a, h, b) = inl (a, h, b)
     parts e x k (at_edge second, h, b) = inr (second, h, b)
 
--- two sets of the tables meet where one element has a cell beside the other
+-- two sets of the tables meet if one element has a cell beside the other
 pub sets_meet : (e : PlayerBoard) (x y p q : ℕ) (r : Bool)
     → ((k : ℕ) → IsTrue (has p k) ↔ Reaches e x k) → ((k : ℕ) → IsTrue (has q k) ↔ HasCell e y k)
     → IsTrue r ↔ ((k : ℕ) × (has p k ≡ true) × (has q k ≡ true)) → IsTrue r ↔ Meets e x y

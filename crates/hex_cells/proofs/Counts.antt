@@ -83,7 +83,7 @@ members_sub t s (suc j) f = omega (arith, members_sub t s j f, bit_mono (has t j
 no_bit : (x : Bool) → x ≡ false → cond {A = ℕ} x 1 0 ≡ 0
 no_bit x e = rw e refl
 
--- and fewer where a cell is left out
+-- and fewer if a cell is left out
 pub members_less : (t s x j : ℕ) → ((k : ℕ) → has t k ≡ true → has s k ≡ true) → has s x ≡ true
     → has t x ≡ false → x < j → members t j < members s j
 unfolding members

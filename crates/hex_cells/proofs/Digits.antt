@@ -26,7 +26,7 @@ decimal_two m l h =
     decimal-digits_of m (omega arith) (omega arith) ∙ ap (λ v. map (λ d. 48 + d) v)
     (digits_of_step 10 m (omega arith) (omega arith) ∙ ap (λ v. v ++ (m % 10 ∷ [])) (one_digit (m / 10) (omega arith) (omega arith)))
 
--- what the list d is, where it is the decimal of m, from 1 to 99
+-- what the list d is, if it is the decimal of m, from 1 to 99
 data Form (d : List ℕ) (m : ℕ) : Type 0 where
   short : length d ≡ 1 → get_or d 0 0 ≡ 48 + m → m < 10 → Form d m
   long : length d ≡ 2 → get_or d 0 0 ≡ 48 + m / 10 → get_or d 1 0 ≡ 48 + m % 10 → 10 ≤ m → Form d m

@@ -16,7 +16,7 @@ risen : (b : Bool) (m k : ℕ) → m ≤ k → k < cond b 1 0 + m → (b ≡ tru
 risen true m k l h = (refl, omega arith)
 risen false m k l h = absurd (omega arith)
 
--- where the count passes k within one cell, that cell is the one with k cells below it
+-- if the count passes k within one cell, that cell is the one with k cells below it
 pub found_at : (s k a w : ℕ) → 1 ≤ w → w ≤ 1 → members s a ≤ k → k < members s (a + w)
     → (has s a ≡ true) × (members s a ≡ k)
 found_at s k a w f g l h =

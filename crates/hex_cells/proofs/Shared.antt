@@ -18,7 +18,7 @@ empty_test a
 some_cell : (a : ℕ) → a < 2 ^ 121 → (a ≡ 0 → ⊥) → (k : ℕ) × (has a k ≡ true)
 some_cell a h n = let t = least_of a (omega arith) h in (trailing_zeros w128 a, t.1)
 
--- two sets meet where their common bits are not all 0
+-- two sets meet if their common bits are not all 0
 pub meets_test : (a b : ℕ) → a < 2 ^ 121
     → IsTrue (not (eqb (bit_and a b) 0)) ↔ ((k : ℕ) × (has a k ≡ true) × (has b k ≡ true))
 meets_test a b h = (

@@ -35,7 +35,7 @@ members_two b w zero a = omega arith
 members_two b w (suc j) a = two_le (has b j) (has w j) (members b j) (members w j) j (a j)
     (members_two b w j a)
 
--- where a cell is in neither set, the two have fewer members than there are cells
+-- if a cell is in neither set, the two have fewer members than there are cells
 members_free : (b w c j : ℕ) → Apart b w → has b c ≡ false → has w c ≡ false → c < j
     → members b j + members w j < j
 unfolding members

@@ -1,4 +1,4 @@
--- A refusal is told exactly where a step is not legal.
+-- A refusal is told exactly if a step is not legal.
 use Rattle.std.proofs.Common.{◌≡◌, Bool, true, false, cond, not, ◌&&◌, List, Some, None, refl, ap}
 use Rattle.std.proofs.Common.{sym, ◌∙◌}
 use Rattle.hex_cells.specs.declared.colours.Colour.{Colour}

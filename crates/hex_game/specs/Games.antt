@@ -17,7 +17,7 @@ use Rattle.hex_game.specs.declared.moves.PlayError.TheVariants.{Occupied, Over, 
 abbrev pub is_over : Position → Bool
 is_over now = is_joined now.size Black now.black || is_joined now.size White now.white
 
--- a swap is White's alone, where the game began without stones and its history is one stone of
+-- a swap is White's alone, if the game began without stones and its history is one stone of
 -- Black
 abbrev pub may_swap : Position → List Step → Colour → Bool
 may_swap start steps colour =
@@ -51,7 +51,7 @@ abbrev pub after_step : Position → List Step → Position → Step → Positio
 after_step start steps now step =
     if is_legal_on start steps now step then moved now steps step.colour step.what else now
 
--- the board after these steps, where the steps before them led from the start to the board now
+-- the board after these steps, if the steps before them led from the start to the board now
 abbrev pub replay_on : Position → List Step → Position → List Step → Position
 replay_on start before now [] = now
 replay_on start before now (step ∷ steps) =

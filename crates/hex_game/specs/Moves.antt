@@ -15,7 +15,7 @@ black_stone_by Black (Stone cell) = Some cell
 black_stone_by Black Swap = None
 black_stone_by White what = None
 
--- the cell of Black's stone, where that one stone is the whole history
+-- the cell of Black's stone, if that one stone is the whole history
 abbrev pub lone_black_stone : List Step → Option ℕ
 lone_black_stone [] = None
 lone_black_stone (step ∷ []) = black_stone_by step.colour step.what

@@ -24,7 +24,7 @@ Gave-take a b c bytes i n p q
     = rw (take-add i n bytes)
     (Gave-then a b c (take i bytes) (take n (drop i bytes)) p (subst (λ l. Gave b c (take n l)) (take_rest bytes i) q))
 
--- where nothing changed, no byte was given
+-- if nothing changed, no byte was given
 pub Same-gave : (a b : Option Told) → Same a b → Gave a b []
 Same-gave a b p
     = Both-weaker a b _ _

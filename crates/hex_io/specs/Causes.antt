@@ -1,11 +1,11 @@
--- A count of faults rises exactly where a fault is answered.
+-- A count of faults rises exactly if a fault is answered.
 use Rattle.std.specs.Prelude.{◌≡◌, ℕ, ◌+◌, ◌-◌, ◌^◌, ◌≤◌, min, OnOk, OnErr, Result}
 
 -- the count rose, or stands at the greatest value of a u64
 abbrev pub Rose : ℕ → ℕ → Type 0
 Rose before now = min (before + 1) (2 ^ 64 - 1) ≤ now
 
--- the count never falls; it rose where there was this fault, and is as before where there was none
+-- the count never falls; it rose if there was this fault, and is as before if there was none
 pub record CountsFault (before now : ℕ) (Fault : Type 0) : Type 0 where
   pub later : before ≤ now
   pub rose : Fault → Rose before now

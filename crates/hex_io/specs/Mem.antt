@@ -29,7 +29,7 @@ ReadFails l = (l.reads ≤ l.next_read) ⊎ Contains l.bad_reads l.next_read
 abbrev pub WriteFails : MemLinkData → Type 0
 WriteFails l = (l.room ≤ length l.told.given) ⊎ Contains l.bad_writes l.next_write
 
--- one more, where a u64 holds it
+-- one more, if a u64 holds it
 abbrev pub one_more : ℕ → ℕ
 one_more n = min (n + 1) (2 ^ 64 - 1)
 

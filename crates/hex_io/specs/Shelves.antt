@@ -27,12 +27,12 @@ pub data Fetched : Type 0 where
   Long : Fetched
   Contents : List ℕ → Fetched
 
--- what a fetch finds, where none is at fault
+-- what a fetch finds, if none is at fault
 abbrev pub found : Option (List ℕ) → Fetched
 found None = Missing
 found (Some bytes) = if nat_le (length bytes) FILE_LIMIT then Contents bytes else Long
 
--- what comes of the fetch of a name from these files, where it is at fault or not
+-- what comes of the fetch of a name from these files, by whether it is at fault
 abbrev pub fetched_of : List File → Bool → List ℕ → Fetched
 fetched_of files true name = Failed
 fetched_of files false name = found (content_of files name)
@@ -42,7 +42,7 @@ abbrev pub is_failed : Fetched → Bool
 is_failed Failed = true
 is_failed _ = false
 
--- what an answer says, where this reads its bytes; nothing, where memory ran out
+-- what an answer says, if this reads its bytes; nothing, if memory ran out
 abbrev pub says : {T : Type 0} → (T → List ℕ) → Result (Option T) ShelfError → Option Fetched
 says bytes (Ok None) = Some Missing
 says bytes (Ok (Some file)) = Some (Contents (bytes file))
@@ -55,11 +55,11 @@ pub record Tries (old new : Shelved) (name : List ℕ) (fetched : Fetched) : Typ
   pub is : fetched ≡ fetched_of old.files (is_failed fetched) name
   pub tried : new ≡ record old { tries = old.tries ++ is_failed fetched ∷ [] }
 
--- what a fetch did: where memory ran out, nothing
+-- what a fetch did: if memory ran out, nothing
 abbrev pub TriesAs : Shelved → Shelved → List ℕ → Option Fetched → Type 0
 TriesAs old new name None = new ≡ old
 TriesAs old new name (Some fetched) = Tries old new name fetched
 
--- the same, where the shelf tells it
+-- the same, if the shelf tells it
 abbrev pub Fetches : Option Shelved → Option Shelved → List ℕ → Option Fetched → Type 0
 Fetches old new name fetched = Both old new (λ o n. TriesAs o n name fetched)

@@ -18,7 +18,7 @@ Both None new R = ⊤
 Both (Some x) None R = ⊥
 Both (Some x) (Some y) R = R x y
 
--- two tellers as one, where both tell
+-- two tellers as one, if both tell
 abbrev pub together : {X Y : Type 0} → Option X → Option Y → Option (X × Y)
 together None b = None
 together (Some x) None = None
@@ -37,7 +37,7 @@ pub record TakesBytes (old new : Told) (n : ℕ) (buf : List ℕ) : Type 0 where
 abbrev pub GivesBytes : Told → Told → List ℕ → Type 0
 GivesBytes old new bytes = new ≡ record old { given = old.given ++ bytes }
 
--- where the link tells, nothing changed
+-- if the link tells, nothing changed
 abbrev pub Same : {X : Type 0} → Option X → Option X → Type 0
 Same old new = Both old new (λ o n. n ≡ o)
 

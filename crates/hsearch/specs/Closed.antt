@@ -27,7 +27,7 @@ IsSettled d kind x y c =
 abbrev pub HoldsEdge : PlayerBoard → ℕ → Type 0
 HoldsEdge e u = (second : Bool) × (edge_element e second ≡ u)
 
--- what the rules of AND give of entries a of x and u, and b of u and y, is settled, where u holds
+-- what the rules of AND give of entries a of x and u, and b of u and y, is settled, if u holds
 -- no edge
 abbrev pub SettlesAnd : StoreData → Entry → Entry → ℕ → ℕ → ℕ → Type 0
 SettlesAnd d a b x u y = AndRule d.elements a b x u y → ¬ (HoldsEdge d.elements u)

@@ -28,7 +28,7 @@ pub record AreListed (d : StoreData) (taken : List Bool) (lists : List (List ℕ
 abbrev pub IsListedAt : List (List ℕ) → ℕ → ℕ → List (List ℕ) → Type 0
 IsListedAt v u n w = w ≡ slice_set v u (slice_index_or v u [] ++ n ∷ [])
 
--- w is v with number n listed for both elements of the entry, where it is full
+-- w is v with number n listed for both elements of the entry, if it is full
 pub record IsEnlisted (v : List (List ℕ)) (n : ℕ) (a : Entry) (w : List (List ℕ)) : Type 0 where
   pub count : length w ≡ length v
   pub kept : (u i : ℕ) → Lists v u i → Lists w u i

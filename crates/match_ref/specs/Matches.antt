@@ -30,7 +30,7 @@ abbrev pub side_of : Match → ℕ → Colour → Side
 side_of m i player = if is_side_a i player then m.a else m.b
 
 -- the seed of that side in game i: S + 2i·2^40 for side a and S + (2i+1)·2^40 for side b, modulo
--- 2^64, where S is the seed of the match
+-- 2^64, if S is the seed of the match
 abbrev pub side_seed : Match → ℕ → Colour → ℕ
 side_seed m i player =
     (m.seed + (2 * i + (if is_side_a i player then 0 else 1)) * 2 ^ 40) % 2 ^ 64

@@ -58,7 +58,7 @@ IsPart options (apart name value) =
     Contains (option_names options) name × (begins_with_hyphen value ≡ false)
 IsPart options (plain word) = begins_with_hyphen word ≡ false
 
--- the word `--` and the words after it, where it stands
+-- the word `--` and the words after it, if it stands there
 abbrev pub after_hyphens : Option (List TextBytes) → List TextBytes
 after_hyphens None = []
 after_hyphens (Some rest) = codes "--" ∷ rest

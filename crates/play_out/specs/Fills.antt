@@ -27,7 +27,7 @@ unfoldable pub filled_by : Position → Colour → List ℕ → Position
 filled_by p player [] = p
 filled_by p player (c ∷ cells) = filled_by (placed p player c) (other_of player) cells
 
--- the filled board of playout k of a search with this seed, from a board where the player is to
+-- the filled board of playout k of a search with this seed, from a board on which the player is to
 -- move
 unfoldable pub filled : Position → Colour → ℕ → ℕ → Position
 filled p player seed k = filled_by p player (order_of p seed k)

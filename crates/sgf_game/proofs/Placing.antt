@@ -294,7 +294,7 @@ both_shuffle false true true u x = refl
 both_shuffle false true false u x = refl
 both_shuffle false false t u x = refl
 
--- both lists together are misplaced where the first is, or the second clashes with it
+-- both lists together are misplaced if the first is, or the second clashes with it
 together : (n : ℕ) (cells others : List (Option ℕ)) → n ≤ 11 → AreCells n cells
     → are_misplaced (cells ++ others) ≡ (clashes 0 0 cells || clashes (with_cells 0 cells) 0 others)
 together n cells others h a =

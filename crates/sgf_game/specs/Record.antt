@@ -16,12 +16,12 @@ use Rattle.sgf_tree.specs.Trees.{GameTrees, none, tree}
 abbrev pub prop_of : List ℕ → List (List ℕ) → Prop
 prop_of name values = record { name = name; values = values }
 
--- a property stands only where it has a value
+-- a property stands only if it has a value
 abbrev pub prop_if : List ℕ → List (List ℕ) → List Prop
 prop_if name [] = []
 prop_if name (value ∷ values) = prop_of name (value ∷ values) ∷ []
 
--- `FF[4]GM[11]SZ[n]`, then AB and AW where there are such start stones
+-- `FF[4]GM[11]SZ[n]`, then AB and AW if there are such start stones
 abbrev pub root_of : Position → Node
 root_of start = record {
   props =

@@ -14,7 +14,7 @@ pub record IsRecordOf (bytes : List ℕ) (game : GameData) : Type 0 where
   pub shallow : depth trees ≤ max_depth
   pub is : game_of trees ≡ Ok game
 
--- the game of which the bytes are a record, or none where they are a record of no game
+-- the game of which the bytes are a record, or none if they are a record of no game
 abbrev pub IsGameOf : List ℕ → Option GameData → Type 0
 IsGameOf bytes None = (game : GameData) → ¬ IsRecordOf bytes game
 IsGameOf bytes (Some game) = IsRecordOf bytes game

@@ -81,7 +81,7 @@ start_of n root = record {
   white = with_cells 0 (cells_named n (codes "AW") root);
 }
 
--- the start board of a line, where its set-up is not refused; none, where it is
+-- the start board of a line, if its set-up is not refused; none, if it is
 abbrev pub IsStartOf : ℕ → Node → List Node → Option Position → Type 0
 IsStartOf n root behind start = MatchOption start (is_bad_setup n root behind ≡ true)
     (λ board. (is_bad_setup n root behind ≡ false) × (board ≡ start_of n root))

@@ -10,7 +10,7 @@ cond_true b y z e = ap (λ v. cond v y z) e
 pub cond_false : {A : Type 0} (b : Bool) (y z : A) → b ≡ false → cond b y z ≡ z
 cond_false b y z e = ap (λ v. cond v y z) e
 
--- what holds of both choices, each where it is taken, holds of the choice
+-- what holds of both choices, each if it is taken, holds of the choice
 pub by_cond : {A : Type 0} (Q : A → Type 0) (b : Bool) (y z : A) → (b ≡ true → Q y)
     → (b ≡ false → Q z) → Q (cond b y z)
 by_cond Q true y z f g = f refl

@@ -29,7 +29,7 @@ abbrev pub Gap : List ℕ → List ℕ → Type 0
 Gap [] rest = [] ≡ rest
 Gap (x ∷ from) rest = (x ∷ from ≡ rest) ⊎ (IsTrue (is_white_space x) × Gap from rest)
 
--- a byte of a value: itself, where it is neither a backslash nor `]`, or a backslash and the byte,
+-- a byte of a value: itself, if it is neither a backslash nor `]`, or a backslash and the byte,
 -- whichever it is
 abbrev pub ByteText : ℕ → List ℕ → List ℕ → Type 0
 ByteText x from rest = ((x ≢ 92) × (x ≢ 93) × (from ≡ x ∷ rest)) ⊎ (from ≡ 92 ∷ x ∷ rest)

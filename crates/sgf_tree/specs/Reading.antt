@@ -84,7 +84,7 @@ go_on o props x =
 abbrev pub add_prop : List Prop → List ℕ → List (List ℕ) → List Prop
 add_prop props name values = props ++ record { name = name; values = values } ∷ []
 
--- Where the reader stands after one more byte, or None where the byte can't stand there.
+-- Where the reader stands after one more byte, or None if the byte can't stand there.
 abbrev pub step : State → ℕ → Option State
 step (between o) x = cond (is_white_space x) (Some (between o)) (turn o x)
 step (opened o) x =
