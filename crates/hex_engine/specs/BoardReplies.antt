@@ -32,11 +32,6 @@ reply_alone game reply = record { reply = reply; game = game }
 abbrev pub success_at : GameData → QuietReaction
 success_at game = record { reply = Done []; game = game }
 
--- for a command that takes no argument
-abbrev pub if_bare : GameData → List (List ℕ) → QuietReaction → QuietReaction
-if_bare game [] quiet = quiet
-if_bare game (word ∷ words) quiet = reply_alone game (Failed Syntax)
-
 -- board and history are emptied
 abbrev pub emptied : ℕ → QuietReaction
 emptied size = success_at (new_game (empty_board size))

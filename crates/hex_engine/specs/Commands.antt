@@ -1,9 +1,10 @@
 -- The commands and their names.
-use Rattle.std.specs.Prelude.{ℕ, List, [], ◌∷◌, Option, codes, map}
+use Rattle.std.specs.Prelude.{ℕ, Bool, true, false, List, [], ◌∷◌, Option, codes, map}
 use Rattle.std.specs.List.{find, join_with_byte}
 use Rattle.std.specs.Str.{bytes_eq}
 use Rattle.hex_engine.specs.declared.commands.Command.{Command}
 use Rattle.hex_engine.specs.declared.commands.Command.TheVariants.{Quiet, GenMove, LoadSgf}
+use Rattle.hex_engine.specs.declared.commands.Quiet as quiet
 use Rattle.hex_engine.specs.declared.commands.Quiet.TheVariants.{BoardSize, ClearBoard}
 use Rattle.hex_engine.specs.declared.commands.Quiet.TheVariants.{KnownCommand, ListCommands}
 use Rattle.hex_engine.specs.declared.commands.Quiet.TheVariants.{MustPlay, Name, Play, PrintSgf}
@@ -42,6 +43,25 @@ name_of (Quiet Winner) = codes "winner"
 -- the command of that name, compared byte by byte
 unfoldable pub command_named : List ℕ → Option Command
 command_named word = find (λ command. bytes_eq (name_of command) word) commands
+
+-- whether a command that uses nothing up is asked for with arguments
+abbrev pub takes_arguments : quiet.Quiet → Bool
+takes_arguments BoardSize = true
+takes_arguments ClearBoard = false
+takes_arguments KnownCommand = true
+takes_arguments ListCommands = false
+takes_arguments MustPlay = false
+takes_arguments Name = false
+takes_arguments Play = true
+takes_arguments PrintSgf = false
+takes_arguments ProtocolVersion = false
+takes_arguments Quit = false
+takes_arguments SearchReport = false
+takes_arguments ShowBoard = false
+takes_arguments Undo = false
+takes_arguments Version = false
+takes_arguments WinCert = false
+takes_arguments Winner = false
 
 -- their names, each on a line
 unfoldable pub all_names : List ℕ

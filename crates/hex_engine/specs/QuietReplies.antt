@@ -1,5 +1,5 @@
 -- What the commands do that use nothing up.
-use Rattle.std.specs.Prelude.{ℕ, List, [], ◌∷◌, Option, Some, None}
+use Rattle.std.specs.Prelude.{ℕ, ◌==◌, ◌||◌, List, [], ◌∷◌, length, Option, Some, None}
 use Rattle.std.specs.Prelude.{codes, is_some, if◌then◌else◌}
 use Rattle.std.specs.Option.{option_and_then, option_map, option_map_or}
 use Rattle.hex_cells.specs.Colours.{colour_word}
@@ -8,9 +8,9 @@ use Rattle.hex_game.specs.Games.{board_of}
 use Rattle.hex_plan.specs.TurnTexts.{TurnTextsData}
 use Rattle.sgf_game.specs.Record.{record_of}
 use Rattle.sgf_tree.specs.Printing.{trees_print}
-use Rattle.hex_engine.specs.BoardReplies.{QuietReaction, reply_alone, if_bare}
+use Rattle.hex_engine.specs.BoardReplies.{QuietReaction, reply_alone}
 use Rattle.hex_engine.specs.BoardReplies.{emptied, resized, playing, undone}
-use Rattle.hex_engine.specs.Commands.{command_named, all_names}
+use Rattle.hex_engine.specs.Commands.{command_named, takes_arguments, all_names}
 use Rattle.hex_engine.specs.EngineState.{EngineState}
 use Rattle.hex_engine.specs.Forms.{sizes_of}
 use Rattle.hex_engine.specs.Picture.{picture}
@@ -26,11 +26,6 @@ use Rattle.hex_engine.specs.declared.commands.Quiet.TheVariants.{ProtocolVersion
 use Rattle.hex_engine.specs.declared.commands.Quiet.TheVariants.{SearchReport, ShowBoard, Undo}
 use Rattle.hex_engine.specs.declared.commands.Quiet.TheVariants.{Version, WinCert, Winner}
 
--- for a command that takes no argument and leaves the game as it is
-abbrev pub bare_reply : List (List ℕ) → Reply → Reply
-bare_reply [] reply = reply
-bare_reply (word ∷ words) reply = Failed Syntax
-
 -- a text if there is one, and else this failure
 abbrev pub text_or : Fail → Option (List ℕ) → Reply
 text_or fail None = Failed fail
@@ -43,34 +38,35 @@ knowing (word ∷ []) =
     Done (if is_some (command_named word) then codes "true" else codes "false")
 knowing (word ∷ other ∷ words) = Failed Syntax
 
--- What a command with these arguments does that uses nothing up. The three that ask for the last
--- turn answer its report, what `mustplay` says of it, and its certificate, if there is one.
+-- What a command that uses nothing up does with these arguments, if it takes any. The three that
+-- ask for the last turn answer its report, what `mustplay` says of it, and its certificate, if
+-- there is one.
+abbrev pub obeyed_quietly : EngineState → Quiet → List (List ℕ) → QuietReaction
+obeyed_quietly engine BoardSize args = resized engine.game (sizes_of args)
+obeyed_quietly engine ClearBoard args = emptied (board_of engine.game).size
+obeyed_quietly engine KnownCommand args = reply_alone engine.game (knowing args)
+obeyed_quietly engine ListCommands args = reply_alone engine.game (Done all_names)
+obeyed_quietly engine MustPlay args = reply_alone engine.game
+    (text_or NoSearch (option_map (λ (texts : TurnTextsData). texts.mustplay) engine.last))
+obeyed_quietly engine Name args = reply_alone engine.game (Done (codes "hexd"))
+obeyed_quietly engine Play args = playing engine.game args
+obeyed_quietly engine PrintSgf args =
+    reply_alone engine.game (Done (trees_print (record_of engine.game)))
+obeyed_quietly engine ProtocolVersion args = reply_alone engine.game (Done (codes "2"))
+obeyed_quietly engine Quit args = reply_alone engine.game reply.Quit
+obeyed_quietly engine SearchReport args = reply_alone engine.game
+    (text_or NoSearch (option_and_then (λ (texts : TurnTextsData). texts.report) engine.last))
+obeyed_quietly engine ShowBoard args =
+    reply_alone engine.game (Done (picture (board_of engine.game)))
+obeyed_quietly engine Undo args = undone engine.game engine.game.steps
+obeyed_quietly engine Version args = reply_alone engine.game (Done (codes "1.0"))
+obeyed_quietly engine WinCert args = reply_alone engine.game
+    (text_or NoCert (option_and_then (λ (texts : TurnTextsData). texts.wincert) engine.last))
+obeyed_quietly engine Winner args = reply_alone engine.game
+    (Done (option_map_or colour_word (winner_of (board_of engine.game)) (codes "none")))
+
+-- what a command with these arguments does that uses nothing up: one that takes none refuses some
 unfoldable pub quiet_reaction : EngineState → Quiet → List (List ℕ) → QuietReaction
-quiet_reaction engine BoardSize args = resized engine.game (sizes_of args)
-quiet_reaction engine ClearBoard args =
-    if_bare engine.game args (emptied (board_of engine.game).size)
-quiet_reaction engine KnownCommand args = reply_alone engine.game (knowing args)
-quiet_reaction engine ListCommands args =
-    reply_alone engine.game (bare_reply args (Done all_names))
-quiet_reaction engine MustPlay args = reply_alone engine.game (bare_reply args
-    (text_or NoSearch (option_map (λ (texts : TurnTextsData). texts.mustplay) engine.last)))
-quiet_reaction engine Name args =
-    reply_alone engine.game (bare_reply args (Done (codes "hexd")))
-quiet_reaction engine Play args = playing engine.game args
-quiet_reaction engine PrintSgf args =
-    reply_alone engine.game (bare_reply args (Done (trees_print (record_of engine.game))))
-quiet_reaction engine ProtocolVersion args =
-    reply_alone engine.game (bare_reply args (Done (codes "2")))
-quiet_reaction engine Quit args = reply_alone engine.game (bare_reply args reply.Quit)
-quiet_reaction engine SearchReport args = reply_alone engine.game (bare_reply args
-    (text_or NoSearch (option_and_then (λ (texts : TurnTextsData). texts.report) engine.last)))
-quiet_reaction engine ShowBoard args =
-    reply_alone engine.game (bare_reply args (Done (picture (board_of engine.game))))
-quiet_reaction engine Undo args =
-    if_bare engine.game args (undone engine.game engine.game.steps)
-quiet_reaction engine Version args =
-    reply_alone engine.game (bare_reply args (Done (codes "1.0")))
-quiet_reaction engine WinCert args = reply_alone engine.game (bare_reply args
-    (text_or NoCert (option_and_then (λ (texts : TurnTextsData). texts.wincert) engine.last)))
-quiet_reaction engine Winner args = reply_alone engine.game (bare_reply args
-    (Done (option_map_or colour_word (winner_of (board_of engine.game)) (codes "none"))))
+quiet_reaction engine command args =
+    if takes_arguments command || (length args == 0) then obeyed_quietly engine command args
+    else reply_alone engine.game (Failed Syntax)

@@ -3,7 +3,7 @@
 ghost use Rattle.std.specs.Prelude.{Some};
 ghost use Rattle.hex_game.specs.Games.{board_of};
 ghost use Rattle.hex_engine.specs.Forms.{sizes_of, IsSaidOf};
-ghost use Rattle.hex_engine.specs.BoardReplies.{emptied, if_bare, played, playing, resized, undone};
+ghost use Rattle.hex_engine.specs.BoardReplies.{emptied, played, playing, resized, undone};
 ghost use Rattle.hex_engine.specs.Requests.{ReactsQuietly};
 
 use super::answers::{Answer, Fail};
@@ -42,15 +42,10 @@ fn resize_to(alloc: Global, game: &mut Game, columns: u32, rows: u32) -> Answer
 }
 
 /// `clear_board`.
-/// Fails: `syntax error`.
 /// Answers nothing; board and history are emptied, the size stays.
-pub fn clear(alloc: Global, game: &mut Game, args: &[Bytes]) -> Answer
-    ensures { ReactsQuietly
-        (if_bare game.old args.now (emptied (board_of game.old).size)) result game.new }
+pub fn clear(alloc: Global, game: &mut Game) -> Answer
+    ensures { ReactsQuietly (emptied (board_of game.old).size) result game.new }
 {
-    if !args.is_empty() {
-        return Answer::Fail(Fail::Syntax);
-    }
     let kept = game.board().size();
     game.clear(kept);
     empty_answer(alloc)
@@ -87,15 +82,11 @@ fn make_move(alloc: Global, game: &mut Game, colour: Colour, word: &MoveWord) ->
 }
 
 /// `undo`.
-/// Fails, in order: `syntax error`; `cannot undo`.
+/// Fails: `cannot undo`.
 /// Answers nothing; the last step is taken back.
-pub fn undo(alloc: Global, game: &mut Game, args: &[Bytes]) -> Answer
-    ensures { ReactsQuietly
-        (if_bare game.old args.now (undone game.old game.old.steps)) result game.new }
+pub fn undo(alloc: Global, game: &mut Game) -> Answer
+    ensures { ReactsQuietly (undone game.old game.old.steps) result game.new }
 {
-    if !args.is_empty() {
-        return Answer::Fail(Fail::Syntax);
-    }
     match game.undo() {
         Err(_) => Answer::Fail(Fail::NoUndo),
         Ok(()) => empty_answer(alloc),

@@ -1,7 +1,8 @@
 //! The commands and their names.
 
-ghost use Rattle.std.specs.Prelude.{◌≡◌, IfOk};
-ghost use Rattle.hex_engine.specs.Commands.{command_named, name_of, all_names};
+ghost use Rattle.std.specs.Prelude.{◌≡◌, ◌∷◌, ◌++◌, IfOk, OnOk};
+ghost use Rattle.std.specs.List.{flat_map};
+ghost use Rattle.hex_engine.specs.Commands.{command_named, name_of, all_names, takes_arguments};
 
 use std::alloc::{AllocError, Global};
 
@@ -114,13 +115,33 @@ impl Command {
     }
 }
 
+impl Quiet {
+    /// Whether it is asked for with arguments.
+    pub fn takes_arguments(self) -> bool
+        ensures { result ≡ takes_arguments self }
+    {
+        matches!(self, Quiet::BoardSize | Quiet::KnownCommand | Quiet::Play)
+    }
+}
+
 /// All names, each on a line.
 #[tactic(auto, unfolding(crate::specs::Commands::all_names))]
 pub fn command_list(alloc: Global) -> Result<Vec<u8>, AllocError>
     ensures { IfOk result (λ text. text.items ≡ all_names) }
 {
-    b"boardsize\nclear_board\ngenmove\nknown_command\nlist_commands\nloadsgf\nmustplay\nname\n\
-    play\nprintsgf\nprotocol_version\nquit\nsearch-report\nshowboard\nundo\nversion\n\
-    wincert\nwinner"
-        .to_vec(alloc)
+    let mut text = COMMANDS[0].name().as_bytes().to_vec(alloc)?;
+    push_lines(&mut text, &COMMANDS[1..])?;
+    Ok(text)
+}
+
+/// The names of these commands, a line feed before each.
+fn push_lines(text: &mut Vec<u8>, commands: &[Command]) -> Result<(), AllocError>
+    ensures { OnOk result
+        (text.new.items ≡ text.old.items ++ flat_map (λ c. 10 ∷ name_of c) commands.now) }
+{
+    for command in commands {
+        text.push(b'\n')?;
+        text.extend_from_slice(command.name().as_bytes())?;
+    }
+    Ok(())
 }

@@ -2,74 +2,56 @@
 
 ghost use Rattle.std.specs.Prelude.{IfOk};
 ghost use Rattle.std.specs.Option.{option_and_then, option_map};
-ghost use Rattle.hex_engine.specs.QuietReplies.{bare_reply, text_or};
+ghost use Rattle.hex_engine.specs.QuietReplies.{text_or};
 ghost use Rattle.hex_engine.specs.Requests.{Tells};
 
 use super::answers::{Answer, Fail, Memory};
-use super::telling::text_answer;
+use super::telling::tell;
 use hex_plan::TurnTexts;
-use htp_line::Bytes;
 use std::alloc::Global;
 
 /// `search-report`.
-/// Fails, in order: `syntax error`; `no search`.
+/// Fails: `no search`.
 /// Answers the playouts of the last turn's search, and each child of its root with visits and wins.
-pub fn tell_report(
-    alloc: Global,
-    args: &[Bytes],
-    last: &Option<TurnTexts>,
-) -> Result<Answer, Memory>
-    ensures { IfOk result (Tells (bare_reply args.now
-        (text_or Fail.NoSearch (option_and_then (λ texts. texts.report) last.now)))) }
+pub fn tell_report(alloc: Global, last: &Option<TurnTexts>) -> Result<Answer, Memory>
+    ensures { IfOk result (Tells
+        (text_or Fail.NoSearch (option_and_then (λ texts. texts.report) last.now))) }
 {
-    if !args.is_empty() {
-        return Ok(Answer::Fail(Fail::Syntax));
-    }
     let Some(texts) = last else {
         return Ok(Answer::Fail(Fail::NoSearch));
     };
     match texts.report() {
-        Some(text) => Ok(text_answer(alloc, text)?),
+        Some(text) => tell(alloc, text),
         None => Ok(Answer::Fail(Fail::NoSearch)),
     }
 }
 
 /// `mustplay`.
-/// Fails, in order: `syntax error`; `no search`.
+/// Fails: `no search`.
 /// Answers the last turn's plan: of a win its cell; of a search whether the board was lost, the
 /// allowed cells, and the carrier of each threat.
-pub fn tell_plan(alloc: Global, args: &[Bytes], last: &Option<TurnTexts>) -> Result<Answer, Memory>
-    ensures { IfOk result (Tells (bare_reply args.now
-        (text_or Fail.NoSearch (option_map (λ texts. texts.mustplay) last.now)))) }
+pub fn tell_plan(alloc: Global, last: &Option<TurnTexts>) -> Result<Answer, Memory>
+    ensures { IfOk result (Tells
+        (text_or Fail.NoSearch (option_map (λ texts. texts.mustplay) last.now))) }
 {
-    if !args.is_empty() {
-        return Ok(Answer::Fail(Fail::Syntax));
-    }
     match last {
-        Some(texts) => Ok(text_answer(alloc, texts.mustplay())?),
+        Some(texts) => tell(alloc, texts.mustplay()),
         None => Ok(Answer::Fail(Fail::NoSearch)),
     }
 }
 
 /// `wincert`.
-/// Fails, in order: `syntax error`; `no certificate`.
+/// Fails: `no certificate`.
 /// Answers the certificate of the last turn's win, without its last line feed.
-pub fn tell_certificate(
-    alloc: Global,
-    args: &[Bytes],
-    last: &Option<TurnTexts>,
-) -> Result<Answer, Memory>
-    ensures { IfOk result (Tells (bare_reply args.now
-        (text_or Fail.NoCert (option_and_then (λ texts. texts.wincert) last.now)))) }
+pub fn tell_certificate(alloc: Global, last: &Option<TurnTexts>) -> Result<Answer, Memory>
+    ensures { IfOk result (Tells
+        (text_or Fail.NoCert (option_and_then (λ texts. texts.wincert) last.now))) }
 {
-    if !args.is_empty() {
-        return Ok(Answer::Fail(Fail::Syntax));
-    }
     let Some(texts) = last else {
         return Ok(Answer::Fail(Fail::NoCert));
     };
     match texts.wincert() {
-        Some(text) => Ok(text_answer(alloc, text)?),
+        Some(text) => tell(alloc, text),
         None => Ok(Answer::Fail(Fail::NoCert)),
     }
 }

@@ -25,9 +25,9 @@
 //! not searched: a turn with such a plan has no tree, but no clause says that none was made.
 //!
 //! **To add a quiet command**, add it to [`Quiet`], to the tables of commands.rt and
-//! specs/Commands.antt, and to `quiet_reaction` of specs/QuietReplies.antt; then write its handler
-//! with that line of `quiet_reaction` as its contract, and its line in quiet.rt. No proof has a
-//! table of commands.
+//! specs/Commands.antt, and to `obeyed_quietly` of specs/QuietReplies.antt; then write its handler
+//! with that line of `obeyed_quietly` as its contract, and its line in quiet.rt. One that takes no
+//! arguments is refused some before its handler is asked. No proof has a table of commands.
 //!
 //! **Limits.** Boards of size 1 to 11, and 1 to 64 workers.
 //!

@@ -2,7 +2,7 @@
 
 ghost use Rattle.std.specs.Prelude.{◌≡◌, IfOk, OnErr, is_some};
 ghost use Rattle.hex_engine.specs.BoardReplies.{in_conversation};
-ghost use Rattle.hex_engine.specs.QuietReplies.{quiet_reaction};
+ghost use Rattle.hex_engine.specs.QuietReplies.{obeyed_quietly, quiet_reaction};
 ghost use Rattle.hex_engine.specs.Requests.{AnsweredQuietly, Reacts, TellsNoFault, is_quiet};
 
 use super::answers::{Answer, Fail, Memory};
@@ -10,7 +10,7 @@ use super::boards::{clear, play, resize, undo};
 use super::commands::{Command, Quiet};
 use super::last_turn::{tell_certificate, tell_plan, tell_report};
 use super::state::Engine;
-use super::telling::{know, list, name_of_winner, print_game, quit, show, tell};
+use super::telling::{know, list, name_of_winner, print_game, show, tell};
 use htp_line::{Bytes, Request};
 
 impl Engine {
@@ -33,6 +33,7 @@ impl Engine {
     }
 
     /// Does what a command says that uses nothing up.
+    /// Fails: `syntax error`, if it takes no arguments and there are some; else as its handler.
     #[tactic(auto, unfolding(crate::specs::QuietReplies::quiet_reaction))]
     pub(super) fn obey(&mut self, command: Quiet, args: &[Bytes]) -> Result<Answer, Memory>
         ensures ok { IfOk result
@@ -41,24 +42,38 @@ impl Engine {
         ensures calm { IfOk result TellsNoFault }
         ensures err { OnErr result (self.new ≡ self.old) }
     {
+        if !command.takes_arguments() && !args.is_empty() {
+            return Ok(Answer::Fail(Fail::Syntax));
+        }
+        self.handle(command, args)
+    }
+
+    /// Hands the arguments, if it takes any, to the handler of the command.
+    fn handle(&mut self, command: Quiet, args: &[Bytes]) -> Result<Answer, Memory>
+        ensures ok { IfOk result
+            (λ answer. Reacts
+            (in_conversation self.old (obeyed_quietly self.old command args.now)) answer self.new) }
+        ensures calm { IfOk result TellsNoFault }
+        ensures err { OnErr result (self.new ≡ self.old) }
+    {
         let alloc = self.alloc;
         match command {
             Quiet::BoardSize => Ok(resize(alloc, &mut self.game, args)),
-            Quiet::ClearBoard => Ok(clear(alloc, &mut self.game, args)),
+            Quiet::ClearBoard => Ok(clear(alloc, &mut self.game)),
             Quiet::KnownCommand => know(alloc, args),
-            Quiet::ListCommands => list(alloc, args),
-            Quiet::MustPlay => tell_plan(alloc, args, &self.last),
-            Quiet::Name => tell(alloc, args, b"hexd"),
+            Quiet::ListCommands => list(alloc),
+            Quiet::MustPlay => tell_plan(alloc, &self.last),
+            Quiet::Name => tell(alloc, b"hexd"),
             Quiet::Play => Ok(play(alloc, &mut self.game, args)),
-            Quiet::PrintSgf => print_game(alloc, args, &self.game),
-            Quiet::ProtocolVersion => tell(alloc, args, b"2"),
-            Quiet::Quit => Ok(quit(args)),
-            Quiet::SearchReport => tell_report(alloc, args, &self.last),
-            Quiet::ShowBoard => show(alloc, args, self.game.board()),
-            Quiet::Undo => Ok(undo(alloc, &mut self.game, args)),
-            Quiet::Version => tell(alloc, args, b"1.0"),
-            Quiet::WinCert => tell_certificate(alloc, args, &self.last),
-            Quiet::Winner => tell(alloc, args, name_of_winner(self.game.board())),
+            Quiet::PrintSgf => print_game(alloc, &self.game),
+            Quiet::ProtocolVersion => tell(alloc, b"2"),
+            Quiet::Quit => Ok(Answer::Quit),
+            Quiet::SearchReport => tell_report(alloc, &self.last),
+            Quiet::ShowBoard => show(alloc, self.game.board()),
+            Quiet::Undo => Ok(undo(alloc, &mut self.game)),
+            Quiet::Version => tell(alloc, b"1.0"),
+            Quiet::WinCert => tell_certificate(alloc, &self.last),
+            Quiet::Winner => tell(alloc, name_of_winner(self.game.board())),
         }
     }
 }
