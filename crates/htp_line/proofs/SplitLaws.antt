@@ -4,9 +4,11 @@ use Rattle.std.proofs.Common.{◌∷◌, ◌++◌, length, get_or, take, Some, N
 use Rattle.std.proofs.Common.{subst, arith, length-append}
 use Rattle.std.specs.List.{position_or_len, position}
 use Rattle.std.proofs.lemmas.Grind.{common_steps}
+use Rattle.std.proofs.lemmas.Bool.{cond-true, false_from_ne_true}
 use Rattle.std.proofs.lemmas.Bool.Decides.{nat_tests}
 use Rattle.std.proofs.lemmas.List.{take_more, take_all, get_or-take}
 use Rattle.std.proofs.lemmas.List.Sums.{fails_before_first, passes_at_first}
+use Rattle.std.proofs.lemmas.Option.{cond_some, none-some}
 use Rattle.htp_line.specs.Lines.{is_feed, rest}
 use Rattle.htp_line.specs.Splitting.{SplitterData, kept_line, grown, so_far, StandsAfter, Advances}
 use Rattle.htp_line.proofs.LinesLaws.{NoFeed, whole_more, whole_ended}
@@ -46,18 +48,12 @@ no_feed_before : (piece : List ℕ) (n : ℕ) → n ≤ position_or_len is_feed 
 no_feed_before piece n below = λ k d h. let b : k < n = grind (arith, common_steps) in
     let f = fails_before_first is_feed piece k d (omega arith) in rw (get_or-take n piece k d b) f
 
-none_if : (b : Bool) (i : ℕ) → cond b (Some i) None ≡ None → b ≡ false
-none_if true i e = cc
-none_if false i e = refl
-
-some_if : (b : Bool) (i k : ℕ) → cond b (Some i) None ≡ Some k → (b ≡ true) × (i ≡ k)
-some_if true i k e = (refl, cc)
-some_if false i k e = cc
-
 pub no_feed : (piece : List ℕ) → position is_feed piece ≡ None → NoFeed piece
 no_feed piece e =
-    let far = none_if (ltb (position_or_len is_feed piece) (length piece))
-    (position_or_len is_feed piece) e in
+    let i : ℕ = position_or_len is_feed piece in
+    let far : ltb i (length piece) ≡ false
+    = false_from_ne_true (ltb i (length piece))
+    (λ t. none-some i (sym e ∙ cond-true (ltb i (length piece)) (Some i) None t)) in
     let past : length piece ≤ position_or_len is_feed piece = grind (arith, nat_tests) in
     subst NoFeed (take_all (length piece) piece (omega arith))
     (no_feed_before piece (length piece) past)
@@ -65,7 +61,7 @@ no_feed piece e =
 pub feed_at : (piece : List ℕ) (i : ℕ) → position is_feed piece ≡ Some i
     → NoFeed (take i piece) × (take (i + 1) piece ≡ take i piece ++ 10 ∷ [])
 feed_at piece i e =
-    let found = some_if (ltb (position_or_len is_feed piece) (length piece))
+    let found = cond_some (ltb (position_or_len is_feed piece) (length piece))
     (position_or_len is_feed piece) i e in
     let same : position_or_len is_feed piece ≡ i = found.1 in
     let within : position_or_len is_feed piece < length piece = grind (arith, nat_tests) in
