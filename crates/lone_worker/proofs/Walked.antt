@@ -23,7 +23,7 @@ use Rattle.tree_words.proofs.Blocks.GameLaws.{fair_game, up-in}
 use Rattle.tree_words.proofs.Blocks.Members.{node-in}
 use Rattle.tree_words.proofs.Blocks.NodeLaws.{under-root}
 use Rattle.tree_words.proofs.Blocks.Orders.{inside-node}
-use Rattle.tree_words.proofs.Walks.Countings.{count-more}
+use Rattle.tree_words.proofs.Walks.Countings.{cond-and, count-more}
 use Rattle.tree_words.proofs.Walks.Down.{plus-nothing}
 use Rattle.tree_words.proofs.Walks.Leaves.{Whole, leaf-spot, adds-at, sees-at}
 use Rattle.tree_words.proofs.Walks.Tallies.{other_again}
@@ -124,7 +124,7 @@ module _ (s : Setting) (bs : List LinkedBlock) (whole : Whole (root_at s) bs) (w
       let once : IsOnce s bs (w + SEEN_WORD) = λ j lf.
       let e = seen-adds s bs whole.order j lf c w i h in
       omega (arith, e, one-most (enters s bs c lf && has_cell (stones_of (outcome_of s j (node_state s bs lf)).full (mover_of s bs w)) (cell_at c (place c w)))) in
-      ap count_in (more (w + SEEN_WORD) ∙ ap (λ (m : ℕ). m + amount_recorded s bs (w + SEEN_WORD) ws) (seen-amount s bs whole.order k leaf c w i h ∙ both enter stone (amount_of won)))
+      ap count_in (more (w + SEEN_WORD) ∙ ap (λ (m : ℕ). m + amount_recorded s bs (w + SEEN_WORD) ws) (seen-amount s bs whole.order k leaf c w i h ∙ sym (cond-and enter stone (amount_of won))))
       ∙ word-more (amount_recorded s bs (w + SEEN_WORD) ws) (enter && stone) won
       (few-wins s bs (w + SEEN_WORD) once ws few)
       ∙ ap (plus (seen_by s bs ws w))
@@ -132,10 +132,6 @@ module _ (s : Setting) (bs : List LinkedBlock) (whole : Whole (root_at s) bs) (w
       ∙ (λ t. cond (enters s bs c (at t)) (cond (has_cell (stones_of o.full (mover c w i h t)) (cell_at c (place c w))) (one (is_same o.winner (mover c w i h t))) nothing) nothing)
       ∙ sym (sees-at s (tally_by s bs ws) (seen_by s bs ws) bs whole o c w i h))
     where
-      both : (t u : Bool) (n : ℕ) → cond t (cond u n 0) 0 ≡ cond (t && u) n 0
-      both true u n = refl
-      both false u n = refl
-
       split : (t u : Bool) (n : Count) → cond (t && u) n nothing ≡ cond t (cond u n nothing) nothing
       split true u n = refl
       split false u n = refl

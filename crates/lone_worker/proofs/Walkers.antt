@@ -1,18 +1,14 @@
 -- A walker makes its claims, publishes and first adds at its leaf.
-use Rattle.std.proofs.Common.{◌≡◌, ℕ, ◌+◌, List, [], ◌∷◌, length, Option, None, sym, ap, ◌∙◌, subst}
-use Rattle.std.proofs.Common.{inl, arith}
-use Rattle.play_out.specs.Fills.{empties_of}
+use Rattle.std.proofs.Common.{◌≡◌, ℕ, ◌+◌, List, [], ◌∷◌, Option, None, sym, ap, ◌∙◌, subst}
+use Rattle.std.proofs.Common.{inl}
 use Rattle.tree_words.specs.Words.{root_at}
-use Rattle.tree_words.specs.Blocks.{InOrder, block_size}
-use Rattle.tree_words.specs.Paths.{NodeState}
-use Rattle.tree_words.specs.Sequence.{size_below}
+use Rattle.tree_words.specs.Blocks.{InOrder}
 use Rattle.tree_words.specs.declared.layout.TheConstants.{TALLY_WORD}
 use Rattle.arena_rule.specs.Views.{SeatView, Flight}
 use Rattle.arena_rule.specs.Adds.{CountAdd}
-use Rattle.arena_rule.specs.Lookups.{empties_at}
-use Rattle.arena_rule.specs.Fits.{MayBegin, MayGetBlock}
+use Rattle.arena_rule.specs.Fits.{MayBegin}
 use Rattle.arena_rule.proofs.Options.{none-some}
-use Rattle.walker.specs.Machine.{op_of, op_at, state_in}
+use Rattle.walker.specs.Machine.{op_of, op_at}
 use Rattle.walker.specs.Climbs.{add_op}
 use Rattle.walker.specs.Belongs.{Belongs, Stands, MayClaim, Leaves, AtTally, AtSeen, adds_above}
 use Rattle.walker.specs.declared.stages.Stage.{Stage}
@@ -20,6 +16,7 @@ use Rattle.walker.specs.declared.stages.Stage.TheVariants.{Drawing, Rooting, Lin
 use Rattle.walker.specs.declared.stages.Stage.TheVariants.{Scanning, Claiming, Writing, Publishing}
 use Rattle.walker.specs.declared.stages.Stage.TheVariants.{Tallying, Seeing, Noting, Ended}
 use Rattle.walker.specs.declared.machine.Walker.{Walker}
+use Rattle.walker.proofs.Fitting.{may-get}
 use Rattle.walker.proofs.KnownLaws.{one-order}
 use Rattle.walker.proofs.LeafLaws.{way-chosen}
 use Rattle.lone_worker.proofs.AtLeaf.{IsAtLeaf, StepsAtLeaf}
@@ -27,21 +24,6 @@ use Rattle.lone_worker.proofs.AtLeaf.{IsAtLeaf, StepsAtLeaf}
 module _ (w : Walker) (v : SeatView) (h : Belongs w v) where
   order : InOrder (root_at v.shape) v.known
   order = one-order v h.view h.width
-
-  -- if it may claim
-  may : MayClaim w v → MayGetBlock v w.node (size_below (state_in w))
-  may m =
-      let same : length (empties_of w.board) ≡ empties_at v w.node
-      = ap (λ (p : NodeState). length (empties_of p.board)) m.down.is in
-      record {
-        known = m.down.known;
-        below = m.below;
-        vacant = m.vacant;
-        loaded = m.down.loaded;
-        visits = omega (arith, m.visits, m.down.counted);
-        some = omega (arith, m.some, same);
-        fits = ap block_size same;
-      }
 
   stand : MayClaim w v → IsAtLeaf v w.node
   stand m = record {
@@ -69,7 +51,7 @@ module _ (w : Walker) (v : SeatView) (h : Belongs w v) where
   by-stage Linking at = tt
   by-stage Heading at = tt
   by-stage Scanning at = tt
-  by-stage Claiming at = (w.node, stand at.may, may at.may)
+  by-stage Claiming at = (w.node, stand at.may, may-get w v h at.may)
   by-stage Writing at = tt
   by-stage Publishing at = (w.node, at.at, stand at.may)
   by-stage Tallying at = first at

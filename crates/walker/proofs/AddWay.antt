@@ -1,6 +1,6 @@
 -- The adds of a walk, level by level of its way.
-use Rattle.std.proofs.Common.{◌≡◌, ℕ, ◌+◌, ◌<◌, Bool, true, false, cond, List, [], ◌∷◌, ◌++◌}
-use Rattle.std.proofs.Common.{length, drop, get_or, Some, refl, sym, ap, ◌∙◌, arith, length-drop}
+use Rattle.std.proofs.Common.{◌≡◌, ℕ, ◌+◌, ◌<◌, true, List, [], ◌∷◌, ◌++◌}
+use Rattle.std.proofs.Common.{length, drop, get_or, Some, sym, ap, ◌∙◌, arith, length-drop}
 use Rattle.std.specs.Prelude.{slice_get}
 use Rattle.std.proofs.lemmas.Option.{slice_get-get_or}
 use Rattle.std.proofs.lemmas.List.{get_or-drop}
@@ -15,20 +15,10 @@ use Rattle.tree_words.specs.Paths.{NodeState, root_state, state_after, node_stat
 use Rattle.tree_words.proofs.Blocks.GameLaws.{up-in}
 use Rattle.tree_words.proofs.Boards.EmptyLaws.{up-root}
 use Rattle.arena_rule.specs.Adds.{CountAdd, Gathered, seen_adds, root_adds, node_adds, adds_up}
+use Rattle.arena_rule.proofs.AddLaws.{adds-state}
 use Rattle.tree_words.proofs.Walks.Tallies.{other_again}
 
 module _ (s : Setting) (o : Ending) where
-  adds-state : (bs : List LinkedBlock) (y : ℕ) → (adds_up s o bs y).state ≡ node_state s bs y
-  adds-state [] y = refl
-  adds-state (b ∷ bs) y = by (has_node b y) (adds-state bs b.parent) (adds-state bs y)
-    where
-      by : (t : Bool) → (adds_up s o bs b.parent).state ≡ node_state s bs b.parent
-          → (adds_up s o bs y).state ≡ node_state s bs y
-          → (cond t (node_adds o b y (adds_up s o bs b.parent)) (adds_up s o bs y)).state ≡ cond t
-          (state_after (node_state s bs b.parent) (cell_at b (place b y))) (node_state s bs y)
-      by true e f = ap (λ (p : NodeState). state_after p (cell_at b (place b y))) e
-      by false e f = f
-
   -- at the root: its tally
   pub adds-root : (bs : List LinkedBlock) (x : ℕ) (p : Colour) → InOrder (root_at s) bs
       → x ≡ root_at s → p ≡ (node_state s bs x).player
@@ -61,7 +51,7 @@ module _ (s : Setting) (o : Ending) where
           (cell_at b (place b x))
           = up-in (root_state s) (λ c y above. state_after above (cell_at c (place c y)))
           (root_at s) bs b x g i h in
-          ap (λ (q : NodeState). q.player) (adds-state bs b.parent)
+          ap (λ (q : NodeState). q.player) (adds-state s o bs b.parent)
           ∙ sym (other_again (node_state s bs b.parent).player)
           ∙ ap other_of (sym (t ∙ ap (λ (q : NodeState). q.player) up))
 

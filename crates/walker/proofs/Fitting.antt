@@ -56,7 +56,8 @@ tally-first w v g c = by w.way c.way
         = (_, adds-level v.shape w.ending v.known h.0.block w.node w.player g h.0.known h.0.node c.player)
 
 module _ (w : Walker) (v : SeatView) (b : Belongs w v) where
-  may-get : MayClaim w v → MayGetBlock v w.node (size_below (state_in w))
+  -- if it may claim, it may get a block
+  pub may-get : MayClaim w v → MayGetBlock v w.node (size_below (state_in w))
   may-get m =
       let same : length (empties_of w.board) ≡ empties_at v w.node
       = ap (λ (p : NodeState). length (empties_of p.board)) m.down.is in

@@ -1,6 +1,7 @@
 -- With an answer that may be given the walker can go on.
-use Rattle.std.proofs.Common.{◌≡◌, ◌⊎◌, ℕ, zero, suc, ◌+◌, ◌-◌, ◌<◌, ◌≤◌, true, List, [], ◌∷◌}
-use Rattle.std.proofs.Common.{length, take, refl, ap, subst, arith, ⊎_elim, inl, inr}
+use Rattle.std.proofs.Common.{◌≡◌, ◌⊎◌, ℕ, ◌+◌, ◌-◌, ◌<◌, ◌≤◌, true, List, [], ◌∷◌}
+use Rattle.std.proofs.Common.{length, take, refl, ap, subst, arith, ⊎_elim}
+use Rattle.std.proofs.Math.Nat.{eq-zero-or-pos}
 use Rattle.hex_cells.specs.Sets.{has as has_cell}
 use Rattle.tree_words.specs.Settings.{Setting}
 use Rattle.tree_words.specs.Words.{Count, root_at, end_of, count_in}
@@ -63,11 +64,7 @@ module _ (w : Walker) (v : SeatView) (b : Belongs w v) (x : ℕ) where
       let q = link-block v.known y l in
       let lies = block-small q.0 q.1 in
       let is = a.known l in omega (arith, lies, is, q.3))
-      (none-or-some (known_link v y))
-    where
-      none-or-some : (n : ℕ) → (n ≡ 0) ⊎ (0 < n)
-      none-or-some zero = inl refl
-      none-or-some (suc n) = inr (omega arith)
+      (eq-zero-or-pos (known_link v y))
 
   way-node : (way : List Level) (y : ℕ) → OnWay v way y → y < PAST_WORDS
   way-node [] y e = omega (arith, e, small-end)

@@ -1,8 +1,9 @@
 -- A scan keeps the child that Choice takes of those that it has looked at.
-use Rattle.std.proofs.Common.{◌≡◌, ◌≢◌, ◌⊎◌, ℕ, zero, suc, ◌+◌, ◌<◌, ◌≤◌, Bool, true, false, cond}
+use Rattle.std.proofs.Common.{◌≡◌, ◌≢◌, ◌⊎◌, ℕ, ◌+◌, ◌<◌, ◌≤◌, Bool, true, false, cond}
 use Rattle.std.proofs.Common.{List, [], ◌∷◌, ◌++◌, length, get_or, Some, refl, sym, ap, ◌∙◌, subst}
-use Rattle.std.proofs.Common.{arith, ⊎_elim, inl, inr, append_assoc}
+use Rattle.std.proofs.Common.{arith, ⊎_elim, append_assoc}
 use Rattle.std.specs.Prelude.{◌==◌, nat_lt, slice_get}
+use Rattle.std.proofs.Math.Nat.{eq-zero-or-pos}
 use Rattle.std.proofs.lemmas.Bool.{cases_Bool, cases_lt, eq-eqb, ne_eqb, lt-ltb, le-ltb}
 use Rattle.std.proofs.lemmas.Option.{slice_get_within, get_or_from_slice_get, slice_get-get_or}
 use Rattle.std.proofs.lemmas.List.{get_or_append_left}
@@ -107,11 +108,7 @@ module _ (d : ScanData) (c : Child) (at : ℕ) (p : Phase) where
       (λ (l : score_in d.parent d.weight c ≤ d.most). subst goal (sym (kept-first d c e z l h.0))
       (first-child (record d { visits = c.visits; at = at; phase = p; place = d.place + 1 }) h.1 one refl (λ t. absurd (cc)) (λ t. (z, omega (arith, l, h.2)))))
       (cases_lt d.most (score_in d.parent d.weight c)))
-      (none-or-some c.visits)
-    where
-      none-or-some : (n : ℕ) → (n ≡ 0) ⊎ (0 < n)
-      none-or-some zero = inl refl
-      none-or-some (suc n) = inr (omega arith)
+      (eq-zero-or-pos c.visits)
 
   -- the child that was kept stays
   old-child : (xs : List Child) (h : HasKept d xs) → is_better d.parent d.weight h.child c ≡ false
@@ -169,12 +166,8 @@ module _ (d : ScanData) (c : Child) (at : ℕ) (p : Phase) where
       (λ (l : score_in d.parent d.weight c ≤ d.most). subst goal (sym (kept-not d c f z l later))
       (old-child xs h (better ∙ le-ltb (score_in d.parent d.weight h.child) (score_in d.parent d.weight c) (omega (arith, l, s.1)))))
       (cases_lt d.most (score_in d.parent d.weight c)))
-      (none-or-some c.visits))
+      (eq-zero-or-pos c.visits))
       (cases_Bool d.fresh)
-    where
-      none-or-some : (n : ℕ) → (n ≡ 0) ⊎ (0 < n)
-      none-or-some zero = inl refl
-      none-or-some (suc n) = inr (omega arith)
 
   pub keeps-more : (xs : List Child) → length xs ≡ d.place → KeepsBest d xs
       → KeepsBest (record (kept d c) { at = at; phase = p; place = d.place + 1 }) (xs ++ c ∷ [])

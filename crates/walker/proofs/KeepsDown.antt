@@ -2,6 +2,7 @@
 use Rattle.std.proofs.Common.{◌≡◌, ◌≢◌, ◌⊎◌, ℕ, zero, suc, ◌+◌, ◌<◌, ◌≤◌, Bool, true, false, cond}
 use Rattle.std.proofs.Common.{List, ◌∷◌, length, refl, sym, ap, ◌∙◌, subst, arith, ⊎_elim, inl, inr}
 use Rattle.std.specs.Prelude.{◌==◌, ◌&&◌, not, nat_lt, nat_le}
+use Rattle.std.proofs.Math.Nat.{eq-zero-or-pos}
 use Rattle.std.proofs.lemmas.Bool.{cases_Bool, cases_eq, and_parts, leb-false, leb-true, ltb-true}
 use Rattle.std.proofs.lemmas.Bool.Decides.{nat_tests}
 use Rattle.play_out.specs.Fills.{empties_of}
@@ -45,11 +46,7 @@ found-below v z b n a ne stays = ⊎_elim
     (λ (l : 0 < known_link v z).
     let q = link-block v.known z l in
     (q.0, stays q.0 q.1, q.3 ∙ sym (a.known l), q.2))
-    (none-or-some (known_link v z))
-  where
-    none-or-some : (n : ℕ) → (n ≡ 0) ⊎ (0 < n)
-    none-or-some zero = inl refl
-    none-or-some (suc n) = inr (omega arith)
+    (eq-zero-or-pos (known_link v z))
 
 -- a node that asks for no block is a leaf
 asks-not : (full t u : Bool) → (not full && (t && u)) ≡ false

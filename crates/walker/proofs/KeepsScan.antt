@@ -1,11 +1,10 @@
 -- The looks at a child keep Belongs.
-use Rattle.std.proofs.Common.{◌≡◌, ◌≢◌, ℕ, ◌+◌, ◌*◌, ◌<◌, ◌≤◌, Bool, true, false, List, [], ◌∷◌}
+use Rattle.std.proofs.Common.{◌≡◌, ◌≢◌, ℕ, ◌+◌, ◌*◌, ◌<◌, ◌≤◌, true, List, [], ◌∷◌}
 use Rattle.std.proofs.Common.{length, map, refl, sym, ap, ◌∙◌, subst, arith}
-use Rattle.std.specs.Prelude.{◌==◌, ◌&&◌, not}
-use Rattle.std.proofs.lemmas.Bool.{eq-eqb}
 use Rattle.std.proofs.Math.Nat.{mul-le-mul}
 use Rattle.hex_cells.specs.Sets.{members}
 use Rattle.hex_cells.specs.declared.colours.Colour.{Colour}
+use Rattle.hex_cells.proofs.Bits.{same_out}
 use Rattle.hex_cells.proofs.Counts.{members_less}
 use Rattle.hex_board.specs.Positions.{Position, is_empty_at, placed}
 use Rattle.hex_board.proofs.Placed.{placed_size, placed_empty, placed_leaves, empty_on}
@@ -53,19 +52,8 @@ fewer-empties p player c small e =
     = members_less (set_of (empties_of q)) (set_of (empties_of p)) c 121
     (λ k t. set_empties p k ∙ (placed_empty p player c k (sym (set_empties q k) ∙ t)).0)
     (set_empties p c ∙ e)
-    (set_empties q c ∙ (placed_leaves p player c c ∙ same (is_empty_at p c) c)) (omega arith) in
+    (set_empties q c ∙ (placed_leaves p player c c ∙ same_out (is_empty_at p c) c)) (omega arith) in
     omega (arith, less, count_empties (set_of (empties_of q)) q (omega (arith, size, small)) (set_empties q), count_empties (set_of (empties_of p)) p small (set_empties p))
-  where
-    same : (a : Bool) (n : ℕ) → (a && not (n == n)) ≡ false
-    same a n = by a (n == n) (eq-self n)
-      where
-        eq-self : (n : ℕ) → (n == n) ≡ true
-        eq-self n = eq-eqb n n refl
-
-        by : (a t : Bool) → t ≡ true → (a && not t) ≡ false
-        by true true e = refl
-        by true false e = sym e
-        by false t e = refl
 
 -- what a scan keeps does not hang on where it looks
 pub keeps-look : (d : ScanData) (xs : List Child) (at t : ℕ) (p : Phase) → KeepsBest d xs
