@@ -19,6 +19,6 @@ pub fn count_records(closed: &Closed) -> usize
     ensures value { result ≡ records_in closed.now }
     ensures all { result ≡ closed.now.shape.knobs.playouts }
 {
-    let end = RECORDS_AT + closed.shape().knobs().playouts as usize;
-    count_words(&closed.words()[RECORDS_AT..end])
+    let root = closed.shape().root() as usize;
+    count_words(&closed.words()[RECORDS_AT..root])
 }
