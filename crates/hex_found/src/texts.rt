@@ -5,7 +5,7 @@ use super::certificates::claim_for;
 use super::derivations::{FIRST_EDGE, SECOND_EDGE};
 use conn_store::Kind;
 use edge_tables::{NOWHERE, value_at};
-use hex_cells::{Cell, CellSet, Colour, MOST_CELLS, Size, VERTEX_LEN, write_vertex};
+use hex_cells::{Cell, CellSet, Colour, MOST_CELLS, Size, VERTEX_LEN, push_number, write_vertex};
 use hex_scout::State;
 use std::alloc::{AllocError, Global};
 
@@ -36,7 +36,7 @@ pub(crate) fn text_of(
         Kind::Full => b"full",
     };
     text.extend_from_slice(claim)?;
-    push_number(alloc, &mut text, need_line(blocks, &layout, 0))?;
+    push_count(alloc, &mut text, need_line(blocks, &layout, 0))?;
     text.push(b'\n')?;
     Ok(text)
 }
@@ -79,7 +79,7 @@ fn push_head(
 ) -> Result<(), AllocError> {
     let size = root.board.size();
     text.extend_from_slice(b"hexcert 2\nsize")?;
-    push_number(alloc, text, size.get())?;
+    push_count(alloc, text, size.get())?;
     let name: &[u8] = match player {
         Colour::Black => b"\nplayer black\nblack",
         Colour::White => b"\nplayer white\nblack",
@@ -155,13 +155,13 @@ fn push_step(
         Part::Move(cell, need) => {
             text.extend_from_slice(b"move")?;
             push_cell(text, cell, layout.size)?;
-            push_number(alloc, text, need_line(blocks, layout, need))
+            push_count(alloc, text, need_line(blocks, layout, need))
         }
         Part::Cases(from, count) => {
             text.extend_from_slice(b"cases")?;
             for number in 0..count {
                 let line = value_at(&blocks.cases, from.saturating_add(number) as usize);
-                push_number(alloc, text, number_of(layout, scope, line))?;
+                push_count(alloc, text, number_of(layout, scope, line))?;
             }
             Ok(())
         }
@@ -177,15 +177,15 @@ fn push_line(
 ) -> Result<(), AllocError> {
     text.extend_from_slice(word)?;
     for number in numbers {
-        push_number(alloc, text, *number)?;
+        push_count(alloc, text, *number)?;
     }
     Ok(())
 }
 
 // A number after a space.
-fn push_number(alloc: Global, text: &mut Vec<u8>, number: u32) -> Result<(), AllocError> {
+fn push_count(alloc: Global, text: &mut Vec<u8>, number: u32) -> Result<(), AllocError> {
     text.push(b' ')?;
-    text.extend_from_slice(number.to_string(alloc)?.as_bytes())
+    push_number(alloc, text, u64::from(number))
 }
 
 // An end after a space.
