@@ -1,10 +1,10 @@
 -- How to read the proof of `hex_solve::solve`: who wins, with a certificate.
--- 1. What is claimed: src/solving.rt; specs/Solved.antt (a clause for each answer), Deciding.antt
+-- 1. What is claimed: src/solver.rt; specs/Solved.antt (a clause for each answer), Deciding.antt
 --    (first, need and bound). src/laws.rt with proofs/FirstWins and NeedBound: first wins, and need
 --    is at most bound.
 -- 2. What lines show of a position: win_cert's specs/Showing.antt (the scope of the player's later
 --    stones), with its proofs/Reaching, ScopeLines, Shown and Appending.
--- 3. A ledger: specs/Ledgers.antt and Marks.antt, src/ledgers.rt, and src/adding.rt over
+-- 3. A ledger: specs/Ledgers.antt and Marks.antt, src/ledgers.rt, and src/additions.rt over
 --    proofs/LedgerLaws and TwoLines (a line more, and two), AddedLines (`put` with `done` or
 --    `move`) and AddedCases.
 -- 4. The plain search: specs/PlainSearch.antt, src/plain_search.rt. proofs/Sums and NextNeed (need
@@ -13,8 +13,7 @@
 -- 5. Its end: specs/PlainAnswer.antt, src/plain_answer.rt, proofs/LedgersTell (clear lines with a
 --    claim are an accepted certificate, by win_cert's Accepting).
 -- 6. With connections: proofs/RootEntries (a semi entry at the root); then hex_found's `find`,
--- whose
---    contract is what the clauses ask of a winner, with no proof here; and then `solve`.
+--    whose contract is what the clauses ask of a winner, with no proof here; and then `solve`.
 
 -- Steps of this crate's own proofs.
 mod FirstWins

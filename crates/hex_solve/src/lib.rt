@@ -47,16 +47,16 @@
 //!   (`unknown`); too long though the lines fit (`too_long`).
 #![tactic(auto)]
 
-mod adding;
+mod additions;
 mod answers;
 mod laws;
 mod ledgers;
 mod plain_answer;
 mod plain_search;
 mod refusals;
-mod solving;
+mod solver;
 
 pub use answers::Solved;
 pub use laws::{first_implies_wins, need_is_bounded};
 pub use refusals::Memory;
-pub use solving::solve;
+pub use solver::solve;

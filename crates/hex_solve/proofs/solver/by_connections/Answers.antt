@@ -3,7 +3,7 @@ use Rattle.conn_store.specs.Stores.{StoreData}
 use Rattle.conn_store.specs.declared.entries.Kind.TheVariants.{Semi}
 use Rattle.win_cert.specs.Cuts.{AreEdgeNumbers}
 use Rattle.hex_solve.proofs.RootEntries.{certified_win, no_semi}
-use Rattle.hex_solve.proofs.solving.by_connections.Goals as goal
+use Rattle.hex_solve.proofs.solver.by_connections.Goals as goal
 
 pub returns-then-semi-eq0-clause-none : goal.returns-then-semi-eq0-clause-none
 returns-then-semi-eq0-clause-none c = no_semi c.args.own.now c.edge_numbers-semi.result
