@@ -11,6 +11,7 @@ use Rattle.tree_words.specs.Opening.{opening_words}
 use Rattle.arena_rule.specs.Views.{SeatView, HasDrawnNothing, new_view, opening_view}
 use Rattle.arena_rule.specs.IsView.{IsView}
 use Rattle.arena_rule.specs.Rule.{Rule}
+use Rattle.arena_rule.proofs.Firsts.{opening-nothing}
 use Rattle.arena_rule.proofs.Law.{begins, begins-apart}
 use Rattle.arena_rule.proofs.Options.{none-some, false-true}
 use Rattle.arena_rule.proofs.ViewSeats.{given-stays}
@@ -21,7 +22,7 @@ use Rattle.sim_run.specs.BetweenSteps.{IsNew, AreNew, AreSimulated}
 use Rattle.sim_run.proofs.Zips.{all-at, zip-same}
 
 module _ (s : Setting) (h : IsSetting s) (walkers : List Walker) (new : AreNew s walkers) where
-  -- the opening view is in order, and has drawn nothing
+  -- the opening view is in order
   order : IsView (opening_view s)
   order = record {
     setting = h;
@@ -33,9 +34,6 @@ module _ (s : Setting) (h : IsSetting s) (walkers : List Walker) (new : AreNew s
     apart = λ i e. absurd (false-true e);
     leaf = λ f e. absurd (none-some e);
   }
-
-  nothing : HasDrawnNothing (opening_view s)
-  nothing = record { ticket = refl; adds = refl; held = refl; ended = refl; walks = refl; full = refl; claimed = refl }
 
   -- a view for each walker
   many : (P : Walker → SeatView → Type 0) (v : SeatView)
@@ -49,7 +47,7 @@ module _ (s : Setting) (h : IsSetting s) (walkers : List Walker) (new : AreNew s
   sole one =
       let v : SeatView = opening_view s in
       let own : (i : ℕ) (w : Walker) → get_elem? walkers i ≡ some w → Belongs w v
-      = λ i w e. all-at (IsNew s) walkers new.each i w e v refl one nothing order in
+      = λ i w e. all-at (IsNew s) walkers new.each i w e v refl one (opening-nothing s) order in
       record {
         views = replicate s.knobs.workers v;
         rule = subst (λ (n : ℕ). Rule s (opening_words s) (replicate n v)) (sym one) (begins s h);
@@ -64,7 +62,7 @@ module _ (s : Setting) (h : IsSetting s) (walkers : List Walker) (new : AreNew s
       let least = h.ranges.workers.0 in
       let given : IsView v
       = given-stays (opening_view s) order 1
-      (record { nothing = nothing; given = omega arith; kept = omega (arith, least, ne) }) in
+      (record { nothing = opening-nothing s; given = omega arith; kept = omega (arith, least, ne) }) in
       let empty : HasDrawnNothing v
       = record { ticket = refl; adds = refl; held = refl; ended = refl; walks = refl; full = refl; claimed = refl } in
       record {
