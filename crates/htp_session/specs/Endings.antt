@@ -60,7 +60,7 @@ pub record Unarchived (start : EngineState) (all : Supply) (limit : ℕ)
   pub wants : (talk start all (lines (since old new))).ending ≡ Short NoTurn
   pub used : (talk start all (lines (since old new))).left ≡ nothing_left
 
--- a write failed: a front of the talk was given
+-- a write failed: a prefix of the talk was given
 pub record Unwritten (start : EngineState) (all : Supply) (limit : ℕ)
     (old new : Told) : Type 0 where
   pub in_limit : length (since old new) ≤ limit

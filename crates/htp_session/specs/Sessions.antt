@@ -104,13 +104,13 @@ pub record Fed (quit : Bool) (old new : Option Told) (start : EngineState) (all 
   pub answered : AnswersAll old new start all seen piece
   pub moved : Moves quit start all later engine held (seen ++ piece)
 
--- a front of what a front of more bytes asks was given
+-- a prefix of what a prefix of more bytes asks was given
 pub record BrokeOff (old new : Option Told) (start : EngineState) (all : Supply)
     (seen more : List ℕ) : Type 0 where
   pub gave : (front : List ℕ) × (others : List ℕ) × (bytes : List ℕ) × (more ≡ front ++ others)
       × GavePart old new bytes × AnswersLines start all bytes seen front
 
--- All that a front of more bytes asks was answered, and nothing else given: the talk over it goes
+-- All that a prefix of more bytes asks was answered, and nothing else given: the talk over it goes
 -- on, this is left then, and a line more stood there.
 pub record GaveUp (old new : Option Told) (start : EngineState) (all later : Supply)
     (seen more : List ℕ) : Type 0 where
@@ -151,7 +151,7 @@ pub record AnsweredLast (old new : Option Told) (start : EngineState) (all later
     (seen : List ℕ) : Type 0 where
   pub gave : (bytes : List ℕ) × Gave old new bytes × AnswersLast start all later bytes seen
 
--- a front of its answer was given
+-- a prefix of its answer was given
 pub record BrokeOffLast (old new : Option Told) (start : EngineState) (all later : Supply)
     (seen : List ℕ) : Type 0 where
   pub gave : (bytes : List ℕ) × GavePart old new bytes × AnswersLast start all later bytes seen

@@ -1,6 +1,6 @@
 //! Gives what is held: the answers that were written and not given yet.
 
-ghost use Rattle.std.specs.Prelude.{◌≡◌, [], OnErr, OnOk};
+ghost use Rattle.std.specs.Prelude.{◌≡◌, ◌≤◌, length, [], OnErr, OnOk};
 ghost use Rattle.hex_io.specs.Grew.{GaveProperPart};
 ghost use Rattle.hex_devices.specs.Calls.{GivesAll};
 ghost use Rattle.hex_devices.specs.Devices.{CountsOnly, shelf_and_archive};
@@ -36,7 +36,7 @@ pub fn give_held<L: Link, F: Shelf, A: Archive, R: Threads + Sync, G: Gate + Syn
     }
 }
 
-/// Gives all that is held, if that is much.
+/// Gives all that is held, if that is much. At most `MOST_HELD` bytes are held then.
 pub fn relieve<L: Link, F: Shelf, A: Archive, R: Threads + Sync, G: Gate + Sync>(
     devices: &mut Devices<'_, '_, '_, '_, L, F, A, R, G>,
     held: &mut Vec<u8>,
@@ -45,6 +45,7 @@ pub fn relieve<L: Link, F: Shelf, A: Archive, R: Threads + Sync, G: Gate + Sync>
         (Passes devices.old.link devices.new.link held.old.items [] held.new.items) }
     ensures part { OnErr result
         (GaveProperPart devices.old.link devices.new.link held.old.items) }
+    ensures few { OnOk result (length held.new.items ≤ MOST_HELD) }
     ensures shelf_and_archive { shelf_and_archive devices.new ≡ shelf_and_archive devices.old }
     ensures counts { CountsOnly Stop.WriteFault devices.old devices.new result }
 {

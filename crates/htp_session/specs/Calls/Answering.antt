@@ -38,9 +38,9 @@ abbrev pub SpeaksToRequest : EngineState → EngineState → Request → List �
 SpeaksToRequest before after request =
     Speaks before after (λ left. after_reading before left (parsed.Request request))
 
--- What this says was written after what was held, and a front of both given, after which the engine
--- stands so; or a write failed before anything was asked; or what was held was given, nothing was
--- used up, and memory or a turn was wanted.
+-- What this says was written after what was held, and a prefix of both given, after which the
+-- engine stands so; or a write failed before anything was asked; or what was held was given,
+-- nothing was used up, and memory or a turn was wanted.
 abbrev pub Writes : DevicesState → DevicesState → EngineState → EngineState → (Supply → TalkState)
     → List ℕ → List ℕ → Result Bool Stop → Type 0
 Writes old new before after says held held_now (Ok quit) =
