@@ -1,9 +1,9 @@
 -- Texts of lists, item by item.
-use Rattle.std.proofs.Common.{◌≡◌, ℕ, zero, suc, refl, ◌+◌, ◌<◌, ◌≤◌, Bool, List, [], ◌∷◌, ◌++◌}
-use Rattle.std.proofs.Common.{length, drop, get_or, sym, ap, ◌∙◌, append-nil, append_assoc, arith}
+use Rattle.std.proofs.Common.{◌≡◌, ℕ, ◌+◌, ◌<◌, ◌≤◌, Bool, List, [], ◌∷◌, ◌++◌}
+use Rattle.std.proofs.Common.{length, drop, get_or, sym, ap, ◌∙◌, append-nil, append_assoc}
 use Rattle.std.specs.List.{filter, flat_map, range_with_len}
 use Rattle.std.proofs.lemmas.Grind.{flat_map-append}
-use Rattle.std.proofs.lemmas.List.{at_drop_more}
+use Rattle.std.proofs.lemmas.List.{at_drop_more, drop_all}
 use Rattle.std.proofs.lemmas.List.Elements.{filter-append}
 use Rattle.win_cert.proofs.Joining.{range_more}
 
@@ -16,17 +16,11 @@ text_step f xs i x old now new l e h w =
     ∙ append_assoc now (f (get_or xs i x)) (flat_map f (drop (i + 1) xs))
     ∙ ap (λ t. now ++ t) (sym (at_drop_more (flat_map f) xs i x l)) ∙ h
 
-all_dropped : {X : Type 0} (xs : List X) (i : ℕ) → length xs ≤ i → drop i xs ≡ []
-all_dropped [] zero l = refl
-all_dropped [] (suc i) l = refl
-all_dropped (x ∷ xs) zero l = absurd (omega arith)
-all_dropped (x ∷ xs) (suc i) l = all_dropped xs i (omega arith)
-
 -- at the end of such a loop
 pub text_end : {X : Type 0} (f : X → List ℕ) (xs : List X) (i : ℕ) (now old : List ℕ)
     → length xs ≤ i → now ++ flat_map f (drop i xs) ≡ old → now ≡ old
 text_end f xs i now old l h = sym (append-nil now)
-    ∙ ap (λ t. now ++ flat_map f t) (sym (all_dropped xs i l)) ∙ h
+    ∙ ap (λ t. now ++ flat_map f t) (sym (drop_all i xs l)) ∙ h
 
 -- the text of the numbers below k + 1 that pass
 pub numbers_more : (f : ℕ → List ℕ) (test : ℕ → Bool) (k : ℕ) (start text new : List ℕ)

@@ -5,9 +5,8 @@ use Rattle.std.specs.List.{slice_get}
 use Rattle.std.proofs.lemmas.Bool.{both_ways}
 use Rattle.std.proofs.lemmas.Option.{get_or_from_slice_get}
 use Rattle.hex_cells.specs.Sets.{has, members}
-use Rattle.hex_cells.specs.declared.colours.Colour.{Colour}
 use Rattle.hex_board.specs.Elements.{PlayerBoard, are_joined, edge_element}
-use Rattle.hex_board.specs.Positions.{Position, Within, stones_of}
+use Rattle.hex_board.specs.Positions.{Within, stones_of}
 use Rattle.hex_board.proofs.Parts.{high_apart}
 use Rattle.hex_board.proofs.Search.{joined_found}
 use Rattle.conn_store.specs.Entries.{IsBetween}
@@ -124,9 +123,3 @@ full_has_cell d n a ts at k on j f =
     = empty_full (members a.carrier 121) (StonesLink d.elements a.x a.y) stones a.carrier f t in
     both_ways (are_joined d.elements) j
     (joined_found d.elements.board.size d.elements.player stones (linked_joins d.elements stones on (same stones) (edges_of d.elements a stones j at.1 l)))
-
-pub within_of : (e : PlayerBoard) (b : Position) (p : Colour) (s : ℕ) → b ≡ e.board → p ≡ e.player
-    → s ≡ stones_of b p → Within b.size s → Within e.board.size (stones_of e.board e.player)
-within_of e b p s h k q w =
-    subst (λ (v : Colour). Within e.board.size (stones_of e.board v)) k
-    (subst (λ (v : Position). Within v.size (stones_of v p)) h (subst (λ v. Within b.size v) q w))

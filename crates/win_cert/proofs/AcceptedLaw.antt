@@ -2,7 +2,7 @@
 use Rattle.std.proofs.Common.{◌≡◌, ℕ, ◌==◌, ◌&&◌, true, false, [], ◌∷◌, Option, Some, None, length}
 use Rattle.std.proofs.Common.{refl, subst, arith}
 use Rattle.std.specs.List.{cons_option, list_all}
-use Rattle.std.proofs.lemmas.Bool.{and_parts, false≢true}
+use Rattle.std.proofs.lemmas.Bool.{and_parts, false≢true, not-false}
 use Rattle.hex_cells.specs.Sets.{members}
 use Rattle.hex_cells.specs.declared.colours.Colour.{Colour}
 use Rattle.hex_board.specs.Elements.{PlayerBoard, edge_element}
@@ -30,7 +30,7 @@ use Rattle.win_cert.specs.declared.certs.Cert.{Cert}
 use Rattle.win_cert.proofs.CaseLines.{edges_good}
 use Rattle.win_cert.proofs.EdgeEntries.{IsGoodOfEdges}
 use Rattle.win_cert.proofs.GoodEntries.{IsGood}
-use Rattle.win_cert.proofs.NamedEntries.{Each, GaveGood, IsLineTaken, none_applies, not_false}
+use Rattle.win_cert.proofs.NamedEntries.{Each, GaveGood, IsLineTaken, none_applies}
 use Rattle.win_cert.proofs.NamedEntries.{taken}
 use Rattle.win_cert.proofs.ScopeBoards.{IsSmallBoard, no_scope_stones, scope_empty, scope_size}
 use Rattle.win_cert.proofs.GivenEntries.{claim_clear, gave_good, small_board}
@@ -66,13 +66,13 @@ claim_good c kind i g h =
     let s = Claim kind i in
     let clear = none_applies c s h in
     let t = and_parts (may_take s (entry_at c i)) true
-    (not_false (list_all (λ j. may_take s (entry_at c j)) (i ∷ [])) (clear BadReference)) in
+    (not-false (list_all (λ j. may_take s (entry_at c j)) (i ∷ [])) (clear BadReference)) in
     let w = some_named s (entry_at c i) t.0 in
     let all : Each (IsLineTaken c s) (w.0 ∷ [])
     = subst (λ es. Each (IsLineTaken c s) es) w.1 (taken c s g clear) in
     let edges : list_all (is_edge_entry c.base) (w.0 ∷ []) ≡ true
     = subst (λ es. list_all (is_edge_entry c.base) es ≡ true) w.1
-    (not_false (list_all (is_edge_entry c.base) (entries_at c (i ∷ []))) (clear NotEdges)) in
+    (not-false (list_all (is_edge_entry c.base) (entries_at c (i ∷ []))) (clear NotEdges)) in
     let a = w.0 in
     let e = elements_in c.base 0 in
     let good : IsGood e kind a.x a.y a.carrier

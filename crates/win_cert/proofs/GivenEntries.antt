@@ -1,5 +1,5 @@
 -- The lines of an accepted certificate give good entries.
-use Rattle.std.proofs.Common.{◌≡◌, ℕ, ◌<◌, List, [], ◌∷◌, ◌++◌, Option, Some, None, length, map}
+use Rattle.std.proofs.Common.{◌≡◌, ℕ, ◌<◌, List, [], ◌∷◌, ◌++◌, Some, None, length, map}
 use Rattle.std.proofs.Common.{option_map, option_and_then, refl, sym, ◌∙◌, ap, subst, zero, suc}
 use Rattle.std.proofs.Common.{inl, inr, ◌⊎◌, arith}
 use Rattle.std.specs.List.{slice_get}
@@ -16,6 +16,7 @@ use Rattle.win_cert.specs.declared.certs.Cert.{Cert}
 use Rattle.win_cert.specs.declared.lines.Line.{Line}
 use Rattle.win_cert.proofs.LineTruth.{read_good}
 use Rattle.win_cert.proofs.NamedEntries.{GaveGood, none_applies}
+use Rattle.win_cert.proofs.Options.{some_of_then}
 use Rattle.win_cert.proofs.ScopeBoards.{IsSmallBoard}
 
 -- ---- the certificate's board
@@ -65,11 +66,6 @@ at_last [] y (suc i) = inl refl
 at_last (x ∷ xs) y zero = inl refl
 at_last (x ∷ xs) y (suc i) = at_last xs y i
 
-then_out : {X Y : Type 0} (f : X → Option Y) (o : Option X) (y : Y) → option_and_then f o ≡ Some y
-    → (x : X) × (o ≡ Some x) × (f x ≡ Some y)
-then_out f None y h = absurd (cc)
-then_out f (Some x) y h = (x, refl, h)
-
 -- an entry that one of the first n lines gave is that of an earlier line, or that of the last of
 -- them
 pub given_by : (cert : Cert) (n i : ℕ) (a : ScopedEntry)
@@ -80,7 +76,7 @@ given_by cert n i a h =
     elim (at_last (entries_below cert n) y i) [
       | inl e ↦ inl (ap option_flatten (sym e) ∙ h)
       | inr e ↦ inr
-          (then_out (gives (context_at cert n)) (slice_get cert.lines n) a (ap option_flatten (sym e) ∙ h))
+          (some_of_then (gives (context_at cert n)) (slice_get cert.lines n) a (ap option_flatten (sym e) ∙ h))
     ]
 
 -- the first n lines give good entries

@@ -83,10 +83,10 @@ one_cell cert e = subst (λ p. IsPosition p.size p.black p.white) (sym e) (recor
   white_on = λ k h. absurd (both_ways (has 0 k) (has_none k) h);
 })
 
-key_wins : Wins Black (empty_board 1) Black
+key_wins : Wins by_key.player by_key.board by_key.player
 key_wins = accepted_wins by_key (one_cell by_key refl)
     (all_good by_key 4 (omega arith) by_key_judged)
 
-scope_wins : Wins Black (empty_board 1) Black
+scope_wins : Wins by_scope.player by_scope.board by_scope.player
 scope_wins = accepted_wins by_scope (one_cell by_scope refl)
     (all_good by_scope 5 (omega arith) by_scope_judged)

@@ -58,6 +58,7 @@ pub mod Stepping
 pub mod CutChains
 pub mod CutSteps
 pub mod CutDerivations
+pub mod CutEnds
 -- Lines after lines, what they show of a position, and when they are accepted.
 pub mod Appending
 pub mod Reaching
@@ -107,7 +108,6 @@ mod Parsed
 mod StepLines
 mod SameVerdict
 mod CutLines
-mod CutEnds
 mod CutMarks
 mod Supports
 mod Moved

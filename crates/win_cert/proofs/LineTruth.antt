@@ -3,7 +3,7 @@
 use Rattle.std.proofs.Common.{◌≡◌, ℕ, ◌==◌, ◌&&◌, true, false, List, [], ◌∷◌, Option, Some, None}
 use Rattle.std.proofs.Common.{refl, subst}
 use Rattle.std.specs.List.{list_all}
-use Rattle.std.proofs.lemmas.Bool.{and_parts, false≢true}
+use Rattle.std.proofs.lemmas.Bool.{and_parts, false≢true, not-false}
 use Rattle.hex_cells.specs.Sets.{with_cell}
 use Rattle.hex_board.specs.Elements.{are_joined, edge_element}
 use Rattle.hex_board.specs.Positions.{is_empty_at}
@@ -27,7 +27,7 @@ use Rattle.win_cert.proofs.CaseLines.{cases_good, edges_good, or_good}
 use Rattle.win_cert.proofs.ChainLines.{and_good, given_is, key_good}
 use Rattle.win_cert.proofs.EdgeEntries.{IsGoodOfEdges, good_done, good_move}
 use Rattle.win_cert.proofs.GoodEntries.{IsGood, good_between, good_near}
-use Rattle.win_cert.proofs.NamedEntries.{Each, GaveGood, IsGoodEntry, IsLineTaken, not_false, taken}
+use Rattle.win_cert.proofs.NamedEntries.{Each, GaveGood, IsGoodEntry, IsLineTaken, taken}
 use Rattle.win_cert.proofs.ScopeBoards.{IsSmallBoard, scope_small}
 
 -- ---- `adj`
@@ -81,7 +81,7 @@ line_good : (c : Context) (line : Line) (r : ScopedEntry) → IsRead c line
     → IsSmallBoard (elements_at c) → gives c line ≡ Some r → IsGoodEntry c.base r
 line_good c (Adj x y) r h m e
     = adj_good c (end_element (elements_at c) x) (end_element (elements_at c) y) r m
-    (not_false (are_near (elements_at c) (end_element (elements_at c) x) (end_element (elements_at c) y)) (h.clear NotNeighbours)) e
+    (not-false (are_near (elements_at c) (end_element (elements_at c) x) (end_element (elements_at c) y)) (h.clear NotNeighbours)) e
 line_good c (And i j) r h m e
     = and_good c (Derivation (And i j)) (entries_at c (i ∷ j ∷ [])) r refl refl m
     (named c (And i j) h) (h.clear CarriersMeet) (h.clear EndInCarrier) (h.clear MiddleKind) e
@@ -91,22 +91,22 @@ line_good c (Key i j) r h m e
 line_good c (Or2 i j) r h m e
     = or_good c (Derivation (Or2 i j)) (entries_at c (i ∷ j ∷ [])) r refl refl m
     (named c (Or2 i j) h) (h.clear CommonCell)
-    (not_false (have_same_ends (entries_at c (i ∷ j ∷ []))) (h.clear EndsDiffer)) e
+    (not-false (have_same_ends (entries_at c (i ∷ j ∷ []))) (h.clear EndsDiffer)) e
 line_good c (Or3 i j k) r h m e
     = or_good c (Derivation (Or3 i j k)) (entries_at c (i ∷ j ∷ k ∷ [])) r refl refl m
     (named c (Or3 i j k) h) (h.clear CommonCell)
-    (not_false (have_same_ends (entries_at c (i ∷ j ∷ k ∷ []))) (h.clear EndsDiffer)) e
+    (not-false (have_same_ends (entries_at c (i ∷ j ∷ k ∷ []))) (h.clear EndsDiffer)) e
 line_good c (Put cells) r h m e = absurd (cc)
 line_good c Done r h m e
     = edge_good c 0 r
-    (good_done (elements_at c) m (not_false (are_joined (elements_at c)) (h.clear NotJoined))) e
+    (good_done (elements_at c) m (not-false (are_joined (elements_at c)) (h.clear NotJoined))) e
 line_good c (Move k i) r h m e
     = move_good c k i (entries_at c (i ∷ [])) r m
-    (not_false (is_empty_at (elements_at c).board k) (h.clear BadStone)) (named c (Move k i) h)
-    (not_false (list_all (is_edge_entry c.base) (entries_at c (i ∷ []))) (h.clear NotEdges)) e
+    (not-false (is_empty_at (elements_at c).board k) (h.clear BadStone)) (named c (Move k i) h)
+    (not-false (list_all (is_edge_entry c.base) (entries_at c (i ∷ []))) (h.clear NotEdges)) e
 line_good c (Cases numbers) r h m e = edge_good c (carriers_of (entries_at c numbers)) r
     (cases_good c (Derivation (Cases numbers)) (entries_at c numbers) refl refl m (named c (Cases numbers) h) (h.clear CommonCell)
-    (not_false (list_all (is_edge_entry c.base) (entries_at c numbers)) (h.clear NotEdges))) e
+    (not-false (list_all (is_edge_entry c.base) (entries_at c numbers)) (h.clear NotEdges))) e
 
 -- a line against which there is no reason gives a good entry
 pub read_good : (c : Context) (line : Line) (r : ScopedEntry) → IsRead c line

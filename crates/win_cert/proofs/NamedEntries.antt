@@ -4,7 +4,7 @@ use Rattle.std.proofs.Common.{◌≡◌, ℕ, ◌==◌, ◌&&◌, ◌||◌, not,
 use Rattle.std.proofs.Common.{Option, Some, None, cond, refl, sym, ◌∙◌, ap, zero, suc}
 use Rattle.std.specs.List.{cons_option, filter_map, find, list_all, slice_get}
 use Rattle.std.proofs.lemmas.Bool.{and_from, and_parts, both_ways, eqb-true, eq-eqb, false≢true}
-use Rattle.std.proofs.lemmas.Bool.{not-true}
+use Rattle.std.proofs.lemmas.Bool.{not-false, not-true}
 use Rattle.hex_board.specs.Elements.{PlayerBoard}
 use Rattle.conn_store.specs.Stores.{same_kind}
 use Rattle.win_cert.specs.Entries.{Context, ScopedEntry, entry_at}
@@ -122,15 +122,11 @@ named_all c s (i ∷ numbers) h =
     named_one c s i (entry_at c i) (filter_map (entry_at c) numbers) refl t.0
     (named_all c s numbers t.1)
 
-pub not_false : (b : Bool) → not b ≡ false → b ≡ true
-not_false true h = refl
-not_false false h = absurd (false≢true (sym h))
-
 -- the entries that a statement names, where no reason is against it
 pub taken : (c : Context) (s : Statement) → GaveGood c → ((r : Reason) → applies c s r ≡ false)
     → Each (IsLineTaken c s) (entries_named c s)
 taken c s g h = each_both (IsNamed c s) (λ a. (a.scope == scope_taken c s) ≡ true) (IsLineTaken c s)
     (entries_named c s)
     (λ a p q. record { named = p; scope_is = eqb-true a.scope (scope_taken c s) q; good = g p.given.0 a p.given.1 })
-    (named_all c s (numbers_in s) (not_false (list_all (λ i. may_take s (entry_at c i)) (numbers_in s)) (h BadReference)))
-    (each_passes (λ a. a.scope == scope_taken c s) (entries_named c s) (not_false (list_all (λ a. a.scope == scope_taken c s) (entries_named c s)) (h WrongScope)))
+    (named_all c s (numbers_in s) (not-false (list_all (λ i. may_take s (entry_at c i)) (numbers_in s)) (h BadReference)))
+    (each_passes (λ a. a.scope == scope_taken c s) (entries_named c s) (not-false (list_all (λ a. a.scope == scope_taken c s) (entries_named c s)) (h WrongScope)))

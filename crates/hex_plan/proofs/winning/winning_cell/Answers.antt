@@ -1,13 +1,13 @@
 -- The middle of a semi entry, and the least cell of the carrier of a full one.
 use Rattle.hex_plan.proofs.WinningCells.{full_some, least_wins, middle_wins, semi_there}
-use Rattle.hex_plan.proofs.Middles.{within_of}
+use Rattle.win_cert.proofs.CutEnds.{stones_within}
 use Rattle.hex_plan.proofs.winning.winning_cell.Goals as goal
 
 pub unwrap-requires : goal.unwrap-requires
 unwrap-requires c =
     full_some c.args.report.now c.store-store.result.now c.entries.result.now c.args.number c.requires.entry.0 c.index-entries-number.result c.least.result
     c.store-store.ensures.value c.entries.ensures.value c.entries.ensures.true_entries c.requires.entry.1 c.index-entries-number.is c.in-Full.is
-    (within_of c.store-store.result.now.elements c.board.result.now c.colour.result c.stones-stones.result c.board.ensures c.colour.ensures c.stones-stones.ensures.value c.stones-stones.ensures.on_board)
+    (stones_within c.board.result.now c.store-store.result.now.elements c.colour.result c.stones-stones.result c.board.ensures c.colour.ensures c.stones-stones.ensures.value c.stones-stones.ensures.on_board)
     c.requires.apart c.least.ensures
 
 pub middle_of-requires : goal.middle_of-requires
