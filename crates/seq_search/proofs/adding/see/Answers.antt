@@ -1,21 +1,17 @@
-use Rattle.std.proofs.Common.{◌≡◌, ◌+◌, ◌<◌, ◌≤◌, ℕ, Bool, true, false, cond, slice_index, length}
+use Rattle.std.proofs.Common.{◌≡◌, ◌+◌, ◌<◌, ℕ, true, cond, slice_index, length}
 use Rattle.std.proofs.Common.{refl, ap, ◌∙◌, arith}
 use Rattle.hex_cells.specs.Sets.{has as has_cell}
 use Rattle.tree_words.specs.Words.{cell_in, node_at}
+use Rattle.tree_words.proofs.Walks.Countings.{cond-most}
 use Rattle.seq_search.proofs.Additions.{sighted-move, sighted-word, sighted-next}
 use Rattle.seq_search.proofs.adding.see.Goals as goal
-
--- no gain is more than the amount
-at-most : (t : Bool) (amount : ℕ) → cond t amount 0 ≤ amount
-at-most true amount = omega arith
-at-most false amount = omega arith
 
 pub overflow_add-words : goal.overflow_add-words
 overflow_add-words c =
     let b : ℕ = c.args.block in let n : ℕ = c.nodes.place in
     let same = sighted-word b n c.args.stones c.args.amount c.args.words.now c.nodes.words c.nodes.invariant in
     let room = c.requires.small n c.nodes-test.true in
-    let gain = at-most (has_cell c.args.stones c.numbered.result) c.args.amount in
+    let gain = cond-most (has_cell c.args.stones c.numbered.result) c.args.amount in
     omega (arith, same, room, c.gain_at.ensures, gain)
 
 pub nodes-preserved : goal.nodes-preserved
