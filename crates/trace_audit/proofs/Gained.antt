@@ -16,7 +16,7 @@ use Rattle.tree_words.proofs.Blocks.NodeLaws.{nodes-apart}
 use Rattle.trace_audit.specs.Gains.{AreCells, GainsBlock, IsNodeOf, Sees, cell_of_node}
 use Rattle.trace_audit.specs.Sums.{Counts, HaveCounts}
 use Rattle.trace_audit.proofs.Downward.{parent_low}
-use Rattle.trace_audit.proofs.LinkedBlocks.{apart_blocks}
+use Rattle.tree_words.proofs.Blocks.NodeLaws.{covers-one}
 use Rattle.trace_audit.proofs.Placed.{count_is, lies, most_of, move_of}
 use Rattle.trace_audit.proofs.Stands.{one_start}
 use Rattle.trace_audit.proofs.Sums.{IsSmall, count_plus, word_of}
@@ -61,7 +61,7 @@ module _ (s : Setting) (words : List ℕ) (bs : List LinkedBlock) (h : IsSetting
       (λ (q : z ≡ r). let low = parent_low r bs d lk.order i in omega (arith, q, low.1, e, l))
       (λ (q : (b : LinkedBlock) × In b bs × (has_node b z ≡ true)).
       let at = has-at q.0 z q.2 in
-      let same : q.0 ≡ d = apart_blocks r bs q.0 d (z + j) lk.order q.1 i (has-covers q.0 z j q.2 l)
+      let same : q.0 ≡ d = covers-one r bs q.0 d (z + j) lk.order q.1 i (has-covers q.0 z j q.2 l)
       (covers_if (z + j) d (omega (arith, e)) (omega (arith, e))) in
       let starts : q.0.start ≡ d.start = ap (λ (c : LinkedBlock). c.start) same in
       omega (arith, at.2, starts, e, l))
@@ -142,7 +142,7 @@ module _ (s : Setting) (words : List ℕ) (bs : List LinkedBlock) (h : IsSetting
         let same : y ≡ node_at b.start k = nodes-apart r bs y (node_at b.start k) 3 3 lk.order node
         (in-node r bs b (node_at b.start k) i (own_node b k i l)) (omega arith)
         (omega arith) q in
-        e (ap (λ (c : LinkedBlock). c.start) (apart_blocks r bs d b (y + 0) lk.order j i (has-covers d y 0 m (omega arith)) (has-covers b y 0 (ap (has_node b) same ∙ own_node b k i l) (omega arith)))))
+        e (ap (λ (c : LinkedBlock). c.start) (covers-one r bs d b (y + 0) lk.order j i (has-covers d y 0 m (omega arith)) (has-covers b y 0 (ap (has_node b) same ∙ own_node b k i l) (omega arith)))))
 
     -- the counts of the sums, if the amount is a count's word and so is each gift
     module _ (c d : Counts) (a : Count) (gifts : ℕ → Count) (is : amount ≡ word_of a)
@@ -171,7 +171,7 @@ module _ (s : Setting) (words : List ℕ) (bs : List LinkedBlock) (h : IsSetting
         tally = λ e z j m. ⊎_elim
             (λ (q : z ≡ x).
             let one : e ≡ b
-            = apart_blocks r bs e b (z + 0) lk.order j i (has-covers e z 0 m (omega arith))
+            = covers-one r bs e b (z + 0) lk.order j i (has-covers e z 0 m (omega arith))
             (has-covers b z 0 (ap (has_node b) q ∙ n) (omega arith)) in
             ap (tally_in after) q
             ∙ ap count_in (g.tally ∙ ap (λ (m : ℕ). slice_index before (x + 2) + m) is)

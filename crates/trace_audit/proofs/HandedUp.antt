@@ -1,18 +1,19 @@
 -- The sums of a block handed up to its parent's.
-use Rattle.std.proofs.Common.{◌≡◌, ℕ, ◌+◌, ◌-◌, ◌*◌, ◌/◌, ◌<◌, ◌≤◌, ◌^◌, Bool, true, false, cond}
+use Rattle.std.proofs.Common.{◌≡◌, ℕ, ◌+◌, ◌-◌, ◌*◌, ◌<◌, ◌≤◌, ◌^◌, Bool, true, false, cond}
 use Rattle.std.proofs.Common.{List, [], ◌∷◌, length, length-set, set, get_or-set_same}
 use Rattle.std.proofs.Common.{get_or-set_other, slice_index, refl, sym, ap, ◌∙◌, subst, ⊎_elim}
 use Rattle.std.proofs.Common.{arith}
 use Rattle.std.specs.Prelude.{◌==◌, ◌&&◌, not}
+use Rattle.std.proofs.Math.Bool.{and-true}
 use Rattle.std.proofs.lemmas.Bool.{cases_Bool, cases_eq, cases_lt, eq-eqb, ne_eqb}
-use Rattle.std.proofs.lemmas.Bool.{false_from_ne_true, or_right}
+use Rattle.std.proofs.lemmas.Bool.{false_from_ne_true}
 use Rattle.hex_cells.specs.Colours.{other_of}
-use Rattle.hex_cells.specs.Sets.{has as has_cell, with_cell}
+use Rattle.hex_cells.specs.Sets.{has as has_cell}
 use Rattle.hex_cells.specs.declared.colours.Colour.{Colour}
 use Rattle.hex_cells.specs.declared.colours.Colour.TheVariants.{Black, White}
 use Rattle.hex_board.specs.Positions.{Position, is_empty_at, placed, stones_of}
 use Rattle.hex_board.proofs.Placed.{empty_on, placed_keeps, placed_leaves, placed_own}
-use Rattle.hex_cells.proofs.WithCell.{has_with_cell}
+use Rattle.hex_cells.proofs.WithCell.{with_cell-here}
 use Rattle.play_out.specs.Fills.{empties_of, filled, filled_by, order_of}
 use Rattle.tree_words.specs.Settings.{Setting, IsSetting}
 use Rattle.tree_words.specs.Words.{Count, cell_in, count_in, root_at, next_in, node_at, nodes_in}
@@ -26,6 +27,7 @@ use Rattle.tree_words.specs.Walks.{plus}
 use Rattle.tree_words.proofs.Blocks.BlockLaws.{has-at, root_node}
 use Rattle.tree_words.proofs.Blocks.GameLaws.{in-parent, up-in, whole-in}
 use Rattle.tree_words.proofs.Blocks.Members.{node-in}
+use Rattle.tree_words.proofs.Walks.Adds.{is_child}
 use Rattle.tree_words.proofs.Walks.Asking.{spot-size}
 use Rattle.tree_words.proofs.Walks.Countings.{has-one}
 use Rattle.tree_words.proofs.Walks.Tallies.{other_again}
@@ -70,9 +72,6 @@ outcome_keeps : (s : Setting) (k : ℕ) (q : NodeState) (owner : Colour) (c : �
     → has_cell (stones_of (outcome_of s k q).full owner) c ≡ true
 unfolding outcome_of filled
 outcome_keeps s k q owner c e = kept_by q.board q.player (order_of q.board s.knobs.seed k) owner c e
-
-with_own : (t c : ℕ) → has_cell (with_cell t c) c ≡ true
-with_own t c = has_with_cell t c c ∙ or_right (has_cell t c) (c == c) (eq-eqb c c refl)
 
 module _ (s : Setting) (words : List ℕ) (bs : List LinkedBlock) (h : IsSetting s)
     (lk : Linked s words bs) (sums : List ℕ) (d : LinkedBlock) (i : In d bs)
@@ -185,11 +184,7 @@ module _ (s : Setting) (words : List ℕ) (bs : List LinkedBlock) (h : IsSetting
 
   alone : (f : ℕ → Bool) (p : Colour)
       → tally_of s bs words n (λ k. f k && true) p ≡ tally_of s bs words n f p
-  alone f p = tally_same s bs words n (λ k. f k && true) f p p (λ k l. yes (f k)) refl
-    where
-      yes : (t : Bool) → (t && true) ≡ t
-      yes true = refl
-      yes false = refl
+  alone f p = tally_same s bs words n (λ k. f k && true) f p p (λ k l. and-true (f k)) refl
 
   grows-all : (b : ℕ) (test : ℕ → ℕ → Bool) (p : Colour) → b < d.start
       → ((z : ℕ) → has_node d z ≡ true → test z 0 ≡ false) → test x 0 ≡ true
@@ -362,7 +357,7 @@ module _ (s : Setting) (words : List ℕ) (bs : List LinkedBlock) (h : IsSetting
         let own : has_cell (stones_of (node_board s bs x) p) c ≡ true
         = ap (λ (q : NodeState). has_cell (stones_of q.board p) c) state
         ∙ ap (λ (q : ℕ). has_cell q c) (placed_own (node_board s bs b.parent) p c)
-        ∙ with_own (stones_of (node_board s bs b.parent) p) c in
+        ∙ with_cell-here (stones_of (node_board s bs b.parent) p) c in
         let there : has_cell (stones_of (node_board s bs (at k)) p) c ≡ true
         = ap (λ (q : NodeState). has_cell (stones_of q.board p) c) spot
         ∙ placed_keeps (node_board s bs x) (chooser s bs d)
@@ -428,12 +423,9 @@ module _ (s : Setting) (words : List ℕ) (bs : List LinkedBlock) (h : IsSetting
           let long : length d.cells ≡ length (empties_of (node_board s bs x)) = ap length cells in
           let few : f.0 < nodes_in words d.start
           = omega (arith, f.1, long, count_is s words bs h lk d i) in
-          let spot : place d (node_at d.start f.0) ≡ f.0 = place_is d.start f.0 in
+          let spot : place d (node_at d.start f.0) ≡ f.0 = is_child d.start f.0 in
           absurd (none f.0 few (cell_is d f.0 i few ∙ ap (cell_at d) spot ∙ ap (λ (t : List ℕ). slice_index t f.0) cells ∙ f.2)))
           (cases_eq c (cell_at b (place b x)))
-        where
-          place_is : (a k : ℕ) → (a + 4 + 4 * k - a - 4) / 4 ≡ k
-          place_is a k = omega arith
 
       pub gift_is : (y : ℕ) → has_node b y ≡ true
           → (slice_index unseen (cell_at b (place b y)) ≤ all)

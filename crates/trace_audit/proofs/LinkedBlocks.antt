@@ -1,30 +1,15 @@
--- Blocks that links name: they are among the linked ones, and no two share a word.
-use Rattle.std.proofs.Common.{◌≡◌, ℕ, ◌+◌, ◌<◌, ◌≤◌, true, List, [], ◌∷◌, refl, sym, ap, ◌∙◌}
+-- Blocks that links name: they are among the linked ones.
+use Rattle.std.proofs.Common.{◌≡◌, ℕ, ◌+◌, ◌<◌, ◌≤◌, true, List, [], refl, ap, ◌∙◌}
 use Rattle.std.proofs.Common.{⊎_elim, arith}
 use Rattle.std.specs.Prelude.{slice_index}
 use Rattle.tree_words.specs.Settings.{Setting, IsSetting}
 use Rattle.tree_words.specs.Words.{root_at, area_at, end_of, next_in, link_in}
-use Rattle.tree_words.specs.Blocks.{LinkedBlock, covers, is_node, In, InOrder}
+use Rattle.tree_words.specs.Blocks.{LinkedBlock, is_node, In}
 use Rattle.tree_words.specs.Complete.{Linked, AreComplete}
 use Rattle.tree_words.specs.Told.{told_block, Knows}
 use Rattle.tree_words.proofs.Blocks.GameLaws.{IsWhole, whole-in}
-use Rattle.tree_words.proofs.Blocks.NodeLaws.{node-lies, in-cover}
+use Rattle.tree_words.proofs.Blocks.NodeLaws.{node-lies}
 use Rattle.tree_words.proofs.Blocks.Within.{told-real}
-
--- two blocks that are linked share no word
-pub apart_blocks : (r : ℕ) (cs : List LinkedBlock) (b c : LinkedBlock) (i : ℕ) → InOrder r cs
-    → In b cs → In c cs → covers i b ≡ true → covers i c ≡ true → b ≡ c
-apart_blocks r [] b c i g p q u v = absurd p
-apart_blocks r (d ∷ cs) b c i g p q u v = ⊎_elim
-    (λ (e : b ≡ d). ⊎_elim
-    (λ (f : c ≡ d). e ∙ sym f)
-    (λ (j : In c cs). let none = g.0.clear i (sym (ap (covers i) e) ∙ u) in let some = in-cover cs c i j v in absurd (omega (arith, none, some)))
-    q)
-    (λ (j : In b cs). ⊎_elim
-    (λ (f : c ≡ d). let none = g.0.clear i (sym (ap (covers i) f) ∙ v) in let some = in-cover cs b i j u in absurd (omega (arith, none, some)))
-    (λ (k : In c cs). apart_blocks r cs b c i g.1 j k u v)
-    q)
-    p
 
 module _ (s : Setting) (words : List ℕ) (h : IsSetting s) where
   -- if a node links a block, that block is among the linked ones, wherever blocks are linked

@@ -13,7 +13,8 @@ use Rattle.tree_words.proofs.Blocks.GameLaws.{IsWhole}
 use Rattle.trace_audit.specs.declared.sites.Site.{Site}
 use Rattle.trace_audit.specs.declared.sites.Table.{Table}
 use Rattle.trace_audit.specs.Tables.{AreUnlinked, StandsInArea, IsSite, Scanned}
-use Rattle.trace_audit.proofs.LinkedBlocks.{link_real, link_whole, apart_blocks}
+use Rattle.trace_audit.proofs.LinkedBlocks.{link_real, link_whole}
+use Rattle.tree_words.proofs.Blocks.NodeLaws.{covers-one}
 
 -- a block that begins at p
 module _ (s : Setting) (words : List ℕ) (h : IsSetting s) (t : Table) (p : ℕ)
@@ -55,7 +56,7 @@ module _ (s : Setting) (words : List ℕ) (h : IsSetting s) (t : Table) (p : ℕ
       let real : In (told_block s bs y (link_in words y)) cs
       = link_real s words h bs cs y lk (sc.known cs lk) is.node (omega (arith, to, l)) in
       let other : LinkedBlock = told_block s bs y (link_in words y) in
-      let same : block ≡ other = apart_blocks (root_at s) cs block other j lk.order
+      let same : block ≡ other = covers-one (root_at s) cs block other j lk.order
       (block_real cs lk) real (covers_if j block (omega (arith, l)) m)
       (covers_if j other (omega (arith, to)) (omega (arith, to))) in
       let start : p ≡ link_in words y = ap (λ z. z.start) same in
@@ -84,13 +85,13 @@ two_close s words h t x p bs sc n start link free j d apart near far e cs lk =
     (omega (arith, to, k.1, inside)) in
     ⊎_elim
     (λ (l : j < start).
-    let same : here ≡ there = apart_blocks (root_at s) cs here there start lk.order real other
+    let same : here ≡ there = covers-one (root_at s) cs here there start lk.order real other
     (covers_if start here (omega (arith, link)) (omega (arith, link)))
     (covers_if start there (omega (arith, to, l)) (omega (arith, to, far))) in
     let starts : link_in words x ≡ link_in words y = ap (λ z. z.start) same in
     apart (sym to ∙ sym starts ∙ link))
     (λ (l : start ≤ j).
-    let same : here ≡ there = apart_blocks (root_at s) cs here there j lk.order real other
+    let same : here ≡ there = covers-one (root_at s) cs here there j lk.order real other
     (covers_if j here (omega (arith, link, l)) (omega (arith, link, near)))
     (covers_if j there (omega (arith, to)) (omega (arith, to))) in
     let starts : link_in words x ≡ link_in words y = ap (λ z. z.start) same in

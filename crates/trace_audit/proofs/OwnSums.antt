@@ -3,7 +3,7 @@ use Rattle.std.proofs.Common.{◌≡◌, ℕ, suc, ◌+◌, ◌<◌, ◌^◌, Bo
 use Rattle.std.proofs.Common.{length-set, replicate, set, get_or-set_same, get_or-set_other}
 use Rattle.std.proofs.Common.{slice_index, refl, sym, ap, ◌∙◌, subst, ⊎_elim, arith}
 use Rattle.std.specs.Prelude.{◌==◌, ◌&&◌}
-use Rattle.std.proofs.lemmas.Bool.{cases_eq, eq-eqb, ne_eqb, false_from_ne_true}
+use Rattle.std.proofs.lemmas.Bool.{and_left, cases_eq, eq-eqb, ne_eqb, false_from_ne_true}
 use Rattle.std.proofs.lemmas.List.{length-replicate}
 use Rattle.hex_cells.specs.Colours.{is_same}
 use Rattle.hex_cells.specs.declared.colours.Colour.{Colour}
@@ -143,9 +143,6 @@ module _ (s : Setting) (words : List ℕ) (bs : List LinkedBlock) (h : IsSetting
       and_true : (t u : Bool) → t ≡ true → (t && u) ≡ u
       and_true t u e = ap (λ (v : Bool). v && u) e
 
-      and_false : (t u : Bool) → t ≡ false → (t && u) ≡ false
-      and_false t u e = ap (λ (v : Bool). v && u) e
-
       below : leaf ≡ r → ⊥
       below e = let low = parent_low r bs b lk.order i in let at = has-at b leaf n in
           omega (arith, e, low.1, at.2)
@@ -177,7 +174,7 @@ module _ (s : Setting) (words : List ℕ) (bs : List LinkedBlock) (h : IsSetting
                 (none (λ j. leaf_of words j == r) _ (ne_eqb (leaf_of words k) r (λ e. below (sym is_leaf ∙ e))))
                 (λ e j d. none (λ q. has_node e (leaf_of words q)) _ (not-here e j d))
                 (λ e z j m d. none (λ q. leaf_of words q == z) _ (ne_eqb (leaf_of words k) z (λ q. d (sym q ∙ is_leaf))))
-                (λ e y j m d. none (λ q. has_node e (leaf_of words q) && has_stone s bs words e y q) _ (and_false (has_node e (leaf_of words k)) (has_stone s bs words e y k) (not-here e j d)))
+                (λ e y j m d. none (λ q. has_node e (leaf_of words q) && has_stone s bs words e y q) _ (and_left (has_node e (leaf_of words k)) (has_stone s bs words e y k) (not-here e j d)))
                 (leaf_set sums leaf (slice_index sums leaf + 1) (standing s bs words own k) node a.counts);
             leaves = λ x m. ⊎_elim
                 (λ (e : x ≡ leaf).

@@ -1,26 +1,21 @@
 -- Words that are the same below NEXT: if one list is closed, the other is.
-use Rattle.std.proofs.Common.{◌≡◌, ℕ, ◌+◌, ◌*◌, ◌<◌, ◌≤◌, Bool, true, List, [], ◌∷◌, length, sym}
+use Rattle.std.proofs.Common.{◌≡◌, ℕ, ◌+◌, ◌*◌, ◌<◌, ◌≤◌, true, List, [], ◌∷◌, length, sym}
 use Rattle.std.proofs.Common.{ap, ◌∙◌, subst, ⊎_elim, arith}
-use Rattle.std.specs.Prelude.{slice_index, ◌&&◌, ◌==◌, ◌≢◌}
+use Rattle.std.specs.Prelude.{slice_index, ◌≢◌}
 use Rattle.std.proofs.lemmas.Bool.{eqb-true, or_cases}
-use Rattle.hex_cells.specs.Colours.{is_same}
 use Rattle.tree_words.specs.Settings.{Setting, IsSetting}
 use Rattle.tree_words.specs.Words.{Count, count_in, root_at, area_at, next_in, nodes_in, record_in}
 use Rattle.tree_words.specs.Words.{leaf_in, winner_in, tally_in, seen_in, ticket_in}
-use Rattle.tree_words.specs.Blocks.{LinkedBlock, block_size, size, has_node, is_node, cell_at}
-use Rattle.tree_words.specs.Blocks.{place}
+use Rattle.tree_words.specs.Blocks.{LinkedBlock, block_size, size, has_node, is_node}
 use Rattle.tree_words.specs.Complete.{AreComplete}
 use Rattle.tree_words.specs.Roots.{root_link, root_count}
 use Rattle.tree_words.specs.Records.{leaf_of}
-use Rattle.tree_words.specs.Paths.{node_state, is_on, enters, mover_of}
+use Rattle.tree_words.specs.Paths.{node_state}
 use Rattle.tree_words.specs.Sequence.{outcome_of}
-use Rattle.tree_words.specs.Counts.{visits_at, sights_at}
-use Rattle.tree_words.specs.Growth.{ends_at, root_end}
-use Rattle.hex_cells.specs.Sets.{has as has_cell}
-use Rattle.hex_board.specs.Positions.{stones_of}
+use Rattle.tree_words.specs.Growth.{root_end}
 use Rattle.tree_words.specs.Closing.{IsClosed}
 use Rattle.tree_words.proofs.Boards.RootLaws.{root_of, complete_in}
-use Rattle.tree_words.proofs.Walks.Tallies.{count-same}
+use Rattle.tree_words.proofs.Walks.Tallies.{ends-words, sights-words, visits-words}
 use Rattle.tree_words.proofs.Blocks.BlockLaws.{has-at, root_node}
 use Rattle.tree_words.proofs.Blocks.GameLaws.{in-node}
 
@@ -46,37 +41,6 @@ front_below s words h c =
     let f = root_of (root_at s) c.blocks (leaf_of words 0) c.linked.order first.node first.below in
     let k = complete_in s (next_in words) c.blocks f.0 c.linked.complete f.1 in
     omega (arith, k.1.inside.0, k.1.claimed)
-
--- whether playout k, whose record is m, sees the block's node y
-abbrev sees_of : Setting → List LinkedBlock → LinkedBlock → ℕ → ℕ → ℕ → Bool
-sees_of s bs c y k m
-    = enters s bs c (leaf_in m) && has_cell
-    (stones_of (outcome_of s k (node_state s bs (leaf_in m))).full (mover_of s bs y))
-    (cell_at c (place c y))
-
-module _ (s : Setting) (bs : List LinkedBlock) (a b : List ℕ) (n : ℕ)
-    (same : (k : ℕ) → k < n → record_in b k ≡ record_in a k) where
-  -- the counts of the first n playouts are the same
-  visits_same : (x : ℕ) → visits_at s bs b n x ≡ visits_at s bs a n x
-  visits_same x =
-      let visits : (visits_at s bs b n x).visits ≡ (visits_at s bs a n x).visits
-      = count-same n _ _ (λ k l. ap (λ (m : ℕ). is_on s bs x (leaf_in m)) (same k l)) in
-      let wins : (visits_at s bs b n x).wins ≡ (visits_at s bs a n x).wins
-      = count-same n _ _
-      (λ k l. ap (λ (m : ℕ). is_on s bs x (leaf_in m) && is_same (outcome_of s k (node_state s bs (leaf_in m))).winner (mover_of s bs x)) (same k l)) in
-      λ i. record { visits = visits i; wins = wins i }
-
-  sights_same : (c : LinkedBlock) (y : ℕ) → sights_at s bs b n c y ≡ sights_at s bs a n c y
-  sights_same c y =
-      let visits : (sights_at s bs b n c y).visits ≡ (sights_at s bs a n c y).visits
-      = count-same n _ _ (λ k l. ap (λ (m : ℕ). sees_of s bs c y k m) (same k l)) in
-      let wins : (sights_at s bs b n c y).wins ≡ (sights_at s bs a n c y).wins
-      = count-same n _ _
-      (λ k l. ap (λ (m : ℕ). sees_of s bs c y k m && is_same (outcome_of s k (node_state s bs (leaf_in m))).winner (mover_of s bs y)) (same k l)) in
-      λ i. record { visits = visits i; wins = wins i }
-
-  ends_same : (x : ℕ) → ends_at b n x ≡ ends_at a n x
-  ends_same x = count-same n _ _ (λ k l. ap (λ (m : ℕ). leaf_in m == x) (same k l))
 
 -- the root's block ends where it did
 roots_same : (s : Setting) (a b : List ℕ) → IsSetting s → IsClosed s a
@@ -133,9 +97,9 @@ closed_same s a b h c long same =
       };
       exact = record {
         tallies = λ x n. tally x (below x n) ∙ c.exact.tallies x n
-            ∙ sym (visits_same s bs a b s.knobs.playouts rec x);
+            ∙ sym (visits-words s bs a b s.knobs.playouts rec x);
         seen = λ d y i h. seen y (below y (in-node (root_at s) bs d y i h)) ∙ c.exact.seen d y i h
-            ∙ sym (sights_same s bs a b s.knobs.playouts rec d y);
+            ∙ sym (sights-words s bs a b s.knobs.playouts rec d y);
       };
       ends = record {
         next = omega (arith, next, c.ends.next);
@@ -146,7 +110,7 @@ closed_same s a b h c long same =
             (sym (tally x (below x (in-node (root_at s) bs d x i hx))))
             (c.grown.first d x y i hx hy (ap (λ (t : Count). t.visits) (sym (tally y (below y (in-node (root_at s) bs d y i hy)))) ∙ z));
         leaves = λ l x k n e. subst (λ (m : ℕ). m ≤ s.knobs.workers * s.knobs.expand)
-            (sym (ends_same s bs a b s.knobs.playouts rec x))
+            (sym (ends-words s bs a b s.knobs.playouts rec x))
             (c.grown.leaves (omega (arith, next, l)) x k n e);
         room = omega (arith, next, root_same, c.grown.room);
       };

@@ -13,7 +13,8 @@ use Rattle.tree_words.proofs.Blocks.NodeLaws.{nodes-apart}
 use Rattle.tree_words.proofs.Blocks.OneTree.{knows-in}
 use Rattle.trace_audit.specs.declared.sites.Table.{Table}
 use Rattle.trace_audit.specs.Tables.{AreUnlinked, IsFollowed, IsInLastBlock, Scanned, IsLinked}
-use Rattle.trace_audit.proofs.LinkedBlocks.{apart_blocks, link_real, link_whole, first_word}
+use Rattle.trace_audit.proofs.LinkedBlocks.{link_real, link_whole, first_word}
+use Rattle.tree_words.proofs.Blocks.NodeLaws.{covers-one}
 use Rattle.trace_audit.proofs.LinkedBlocks.{node_below}
 
 module _ (s : Setting) (words : List ℕ) (h : IsSetting s) where
@@ -62,7 +63,7 @@ module _ (s : Setting) (words : List ℕ) (h : IsSetting s) where
       ⊎_elim
       (λ (f : b < p).
       let both : d ≡ c
-      = apart_blocks (root_at s) cs d c b lk.order (knows-in (root_at s) cs bs d k e.1) i
+      = covers-one (root_at s) cs d c b lk.order (knows-in (root_at s) cs bs d k e.1) i
       (covers_if b d (omega (arith, at.2, above)) (omega (arith, e.3, f)))
       (covers_if b c (omega arith) (omega arith)) in
       let start : d.start ≡ b = ap (λ (z : LinkedBlock). z.start) both in

@@ -1,10 +1,11 @@
 -- Where playouts stand while sums are handed up.
 use Rattle.std.proofs.Common.{◌≡◌, ℕ, ◌+◌, ◌<◌, ◌≤◌, Bool, true, false, cond, List, [], ◌∷◌, refl}
 use Rattle.std.proofs.Common.{sym, ap, ◌∙◌, subst, ⊎_elim, inl, inr, arith}
-use Rattle.std.specs.Prelude.{◌||◌, nat_le, nat_lt}
+use Rattle.std.specs.Prelude.{◌||◌, nat_le}
 use Rattle.std.specs.List.{list_any}
-use Rattle.std.proofs.lemmas.Bool.{cases_eq, cases_lt, eqb-true, false_from_ne_true, or_cases}
-use Rattle.std.proofs.lemmas.Bool.Decides.{nat_tests}
+use Rattle.std.proofs.Math.Bool.{or-false}
+use Rattle.std.proofs.lemmas.Bool.{cases_eq, cases_lt, eqb-true, false_from_ne_true, le-leb}
+use Rattle.std.proofs.lemmas.Bool.{le-ltb, lt-leb, lt-ltb, or_cases}
 use Rattle.hex_cells.specs.Sets.{has as has_cell}
 use Rattle.hex_cells.specs.declared.colours.Colour.{Colour}
 use Rattle.hex_board.specs.Positions.{stones_of}
@@ -21,7 +22,7 @@ use Rattle.tree_words.proofs.Boards.EmptyLaws.{up-root}
 use Rattle.tree_words.proofs.Walks.Countings.{has-one}
 use Rattle.trace_audit.specs.Sums.{stand, level}
 use Rattle.trace_audit.proofs.Downward.{parent_low}
-use Rattle.trace_audit.proofs.LinkedBlocks.{apart_blocks}
+use Rattle.tree_words.proofs.Blocks.NodeLaws.{covers-one}
 
 -- what holds of the root, and of the nodes of a block if it holds of its parent, holds of each node
 pub from_root : (r : ℕ) (bs : List LinkedBlock) (P : ℕ → Type 0) → InOrder r bs → P r
@@ -36,18 +37,6 @@ from_root r (c ∷ cs) P g root step y n =
     (λ (h : is_node r cs y ≡ true). older y h)
     (or_cases (has_node c y) (is_node r cs y) n)
 
-pub le_true : (a b : ℕ) → a ≤ b → nat_le a b ≡ true
-le_true a b l = grind (arith, nat_tests)
-
-pub le_false : (a b : ℕ) → b < a → nat_le a b ≡ false
-le_false a b l = grind (arith, nat_tests)
-
-pub lt_true : (a b : ℕ) → a < b → nat_lt a b ≡ true
-lt_true a b l = grind (arith, nat_tests)
-
-pub lt_false : (a b : ℕ) → b ≤ a → nat_lt a b ≡ false
-lt_false a b l = grind (arith, nat_tests)
-
 module _ (s : Setting) (bs : List LinkedBlock) (g : InOrder (root_at s) bs) where
   abbrev r : ℕ
   r = root_at s
@@ -58,7 +47,7 @@ module _ (s : Setting) (bs : List LinkedBlock) (g : InOrder (root_at s) bs) wher
   -- blocks that begin at one word are one
   pub one_start : (b d : LinkedBlock) → In b bs → In d bs → b.start ≡ d.start → b ≡ d
   one_start b d i j e
-      = apart_blocks r bs b d b.start g i j (covers_if b.start b (omega arith) (omega arith))
+      = covers-one r bs b d b.start g i j (covers_if b.start b (omega arith) (omega arith))
       (covers_if b.start d (omega (arith, e)) (omega (arith, e)))
 
   pub stand_root : (e : ℕ) → stand s bs e r ≡ r
@@ -68,13 +57,13 @@ module _ (s : Setting) (bs : List LinkedBlock) (g : InOrder (root_at s) bs) wher
   pub stand_up : (e : ℕ) (b : LinkedBlock) (y : ℕ) → In b bs → has_node b y ≡ true → e ≤ b.start
       → stand s bs e y ≡ stand s bs e b.parent
   stand_up e b y i n l = up-in r (step e) r bs b y g i n
-      ∙ ap (λ (t : Bool). cond t (stand s bs e b.parent) y) (le_true e b.start l)
+      ∙ ap (λ (t : Bool). cond t (stand s bs e b.parent) y) (le-leb e b.start l)
 
   -- and in another one it stands where it is
   pub stand_here : (e : ℕ) (b : LinkedBlock) (y : ℕ) → In b bs → has_node b y ≡ true → b.start < e
       → stand s bs e y ≡ y
   stand_here e b y i n l = up-in r (step e) r bs b y g i n
-      ∙ ap (λ (t : Bool). cond t (stand s bs e b.parent) y) (le_false e b.start l)
+      ∙ ap (λ (t : Bool). cond t (stand s bs e b.parent) y) (lt-leb e b.start l)
 
   pub stand_low : (e y : ℕ) → is_node r bs y ≡ true → y < e → stand s bs e y ≡ y
   stand_low e y n l = ⊎_elim
@@ -150,19 +139,15 @@ module _ (s : Setting) (bs : List LinkedBlock) (g : InOrder (root_at s) bs) wher
       → (y : ℕ) → is_node r bs y ≡ true → test (stand s bs e y) ≡ list_any test (path_of s bs y)
   stand_tells e test above below
       = from_root r bs (λ y. test (stand s bs e y) ≡ list_any test (path_of s bs y)) g
-      (ap test (stand_root e) ∙ sym (none (test r)) ∙ sym (ap (list_any test) (up-root (r ∷ []) (λ b y rest. y ∷ rest) r bs g)))
+      (ap test (stand_root e) ∙ sym (or-false (test r)) ∙ sym (ap (list_any test) (up-root (r ∷ []) (λ b y rest. y ∷ rest) r bs g)))
       (λ b y j n h.
       let path : path_of s bs y ≡ y ∷ path_of s bs b.parent
       = up-in (r ∷ []) (λ c z rest. z ∷ rest) r bs b y g j n in
       ⊎_elim
-      (λ (l : b.start < e). ap test (stand_here e b y j n l) ∙ sym (ap (list_any test) path ∙ ap (λ (t : Bool). test y || t) (below b j l) ∙ none (test y)))
+      (λ (l : b.start < e). ap test (stand_here e b y j n l) ∙ sym (ap (list_any test) path ∙ ap (λ (t : Bool). test y || t) (below b j l) ∙ or-false (test y)))
       (λ (l : e ≤ b.start). ap test (stand_up e b y j n (omega (arith, l))) ∙ h
       ∙ sym (ap (list_any test) path ∙ ap (λ (t : Bool). t || list_any test (path_of s bs b.parent)) (above b y j n (omega (arith, l)))))
       (cases_lt b.start e))
-    where
-      none : (t : Bool) → (t || false) ≡ t
-      none true = refl
-      none false = refl
 
   -- the stones of the node where a playout stands lie on its leaf's board
   pub stand_keeps : (e : ℕ) (owner : Colour) (c : ℕ) (y : ℕ) → is_node r bs y ≡ true
@@ -186,7 +171,7 @@ module _ (s : Setting) (bs : List LinkedBlock) (g : InOrder (root_at s) bs) wher
 
   -- the level of a block
   pub level_low : (e b : ℕ) → b < e → level e b ≡ e
-  level_low e b l = ap (λ (t : Bool). cond t e (b + 1)) (lt_true b e l)
+  level_low e b l = ap (λ (t : Bool). cond t e (b + 1)) (lt-ltb b e l)
 
   pub level_high : (e b : ℕ) → e ≤ b → level e b ≡ b + 1
-  level_high e b l = ap (λ (t : Bool). cond t e (b + 1)) (lt_false b e l)
+  level_high e b l = ap (λ (t : Bool). cond t e (b + 1)) (le-ltb b e l)

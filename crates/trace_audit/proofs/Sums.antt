@@ -12,7 +12,7 @@ use Rattle.tree_words.specs.Records.{outcome_in}
 use Rattle.tree_words.specs.Walks.{nothing, plus}
 use Rattle.tree_words.specs.Sequence.{one, amount_of}
 use Rattle.tree_words.specs.Counts.{count_below}
-use Rattle.tree_words.proofs.Walks.Tallies.{count-same, count-most}
+use Rattle.tree_words.proofs.Walks.Tallies.{count-same, count-most, more_visits}
 use Rattle.trace_audit.specs.Gains.{turned_word}
 use Rattle.trace_audit.specs.Sums.{tally_of}
 
@@ -135,14 +135,8 @@ module _ (s : Setting) (bs : List LinkedBlock) (words : List ℕ) (n : ℕ) wher
       (λ k l. won_once (f k) (outcome_in s bs words k).winner c ∙ (λ j. one_if (f k && is_same (outcome_in s bs words k).winner c) + one_if (f k && is_same (outcome_in s bs words k).winner (sym o j)))))
 
 -- one playout more
-pub more_tally : (t w : Bool) (c : Count)
-    → record { visits = c.visits + one_if t; wins = c.wins + one_if (t && w) } ≡ plus c
-    (cond t (one w) nothing)
-more_tally true w c = refl
-more_tally false w c = refl
-
 pub tally_next : (s : Setting) (bs : List LinkedBlock) (words : List ℕ) (n : ℕ) (f : ℕ → Bool)
     (c : Colour) → tally_of s bs words (suc n) f c ≡ plus (tally_of s bs words n f c)
     (cond (f n) (one (is_same (outcome_in s bs words n).winner c)) nothing)
-tally_next s bs words n f c = more_tally (f n) (is_same (outcome_in s bs words n).winner c)
+tally_next s bs words n f c = more_visits (f n) (is_same (outcome_in s bs words n).winner c)
     (tally_of s bs words n f c)
