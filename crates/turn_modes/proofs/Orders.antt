@@ -1,35 +1,27 @@
 -- The shuffled cells of a board without stones, and the boards after stones on them.
-use Rattle.std.proofs.Common.{◌≡◌, ℕ, zero, suc, ◌+◌, ◌-◌, ◌*◌, ◌/◌, ◌<◌, ◌≤◌, ◌&&◌, not, nat_lt}
+use Rattle.std.proofs.Common.{◌≡◌, ℕ, zero, suc, ◌+◌, ◌-◌, ◌*◌, ◌/◌, ◌<◌, ◌≤◌, not}
 use Rattle.std.proofs.Common.{Bool, true, false, cond, List, [], ◌∷◌, ◌++◌, length, take, get_or}
 use Rattle.std.proofs.Common.{Option, Some, None, refl, sym, ap, ◌∙◌, inl, inr, zero-add, add-one}
 use Rattle.std.proofs.Common.{arith}
 use Rattle.std.specs.Prelude.{is_some}
 use Rattle.std.specs.List.{filter, range_with_len, swap}
-use Rattle.std.proofs.lemmas.Bool.{cases_lt, lt-ltb}
+use Rattle.std.proofs.lemmas.Bool.{cases_lt}
 use Rattle.std.proofs.lemmas.List.{take_more, length-take-le}
 use Rattle.std.proofs.lemmas.List.FromFn.{length-range_with_len, get_or-range_with_len}
 use Rattle.std.proofs.lemmas.List.Edits.{length-swap}
 use Rattle.std.proofs.lemmas.List.Sums.{prefix_len_is}
 use Rattle.hex_cells.specs.Colours.{other_of}
-use Rattle.hex_cells.specs.Sets.{has}
 use Rattle.hex_cells.specs.declared.colours.Colour.{Colour}
 use Rattle.hex_cells.specs.declared.colours.Colour.TheVariants.{Black}
-use Rattle.hex_cells.proofs.Bits.{has_none}
 use Rattle.hex_board.specs.Joined.{winner_of}
 use Rattle.hex_board.specs.Positions.{Position, empty_board, is_empty_at, placed}
+use Rattle.hex_board.proofs.EmptyBoards.{all_empty}
 use Rattle.play_out.specs.Fills.{ListsEmpties, empties_of, filled_by, order_of}
 use Rattle.play_out.specs.Streams.{place_of, shuffled, state_for, stream_at, words_of}
 use Rattle.turn_modes.specs.Positions.{board_on, is_open, mover_after, shuffled_cells, placed_count}
 use Rattle.turn_modes.proofs.Placing.{mover_from, from_black, one_stone_more, next_is_empty}
 
 -- ---- the board without stones
-
--- each cell is empty
-bare_empty : (n k : ℕ) → k < n * n → is_empty_at (empty_board n) k ≡ true
-bare_empty n k l = all (nat_lt k (n * n)) (has 0 k) (lt-ltb k (n * n) l) (has_none k)
-  where
-    all : (a b : Bool) → a ≡ true → b ≡ false → (a && not b && not b) ≡ true
-    all a b e f = ap (λ v. v && not b && not b) e ∙ ap (λ v. not v && not v) f
 
 keeps_all : (p : ℕ → Bool) (a m : ℕ) → ((k : ℕ) → k < a + m → p k ≡ true)
     → length (filter p (range_with_len a m)) ≡ m
@@ -42,7 +34,7 @@ keeps_all p a (suc m) h =
 bare_count : (n : ℕ) → length (empties_of (empty_board n)) ≡ n * n
 unfolding empties_of
 bare_count n = keeps_all (is_empty_at (empty_board n)) 0 (n * n)
-    (λ k l. bare_empty n k (omega arith))
+    (λ k l. all_empty n k (omega arith))
 
 -- ---- the shuffled cells
 
