@@ -359,7 +359,7 @@ fn trees(rt: HostRuntime) -> Result<(), Fail> {
         let (visits, wins, next, blocks, cell, children) = tree;
         let shape = shape_of(&search).ok_or("a shape")?;
         let closed = plain_search(rt.alloc(), &shape)?;
-        let root = u64::from(shape.knobs().playouts).wrapping_add(2);
+        let root = u64::from(shape.root());
         assert_eq!(rt;
             word(&closed, root.wrapping_add(2)),
             Some(counts(visits, wins))
@@ -430,7 +430,7 @@ fn large_trees(rt: HostRuntime) -> Result<(), Fail> {
     for (playouts, wins, next, blocks, cell, seen, children) in table {
         let shape = shape_of(&(11, 0, 0, 0, B, [playouts, 0, 4194304, 8, 180])).ok_or("a shape")?;
         let closed = plain_search(rt.alloc(), &shape)?;
-        let root = playouts.wrapping_add(2);
+        let root = u64::from(shape.root());
         let first = root.wrapping_add(8);
         assert_eq!(rt;
             word(&closed, root.wrapping_add(2)),

@@ -213,7 +213,7 @@ fn trees(rt: HostRuntime) -> Result<(), Fail> {
         let shape = shape_of(search).ok_or("a shape")?;
         let schedule = schedule_of(rt.alloc(), parts)?;
         let closed = simulate(rt.alloc(), &shape, &schedule)?;
-        let area = u64::from(shape.knobs().playouts).wrapping_add(6);
+        let area = u64::from(shape.area());
         assert_eq!(rt; word(&closed, 0), next);
         assert_eq!(rt; word(&closed, 1), ticket);
         assert_eq!(rt; blocks_of(&closed, area), blocks);
