@@ -34,6 +34,9 @@
 //!   have one way down.
 //! - A node's seen word is added to also if the add is 0: whether a cell of the full board has a
 //!   stone of the mover can't be guessed, so a branch would be taken wrongly at every other node.
+//! - `choose` keeps a bar beside the best score, as a walker of a team does, so that not each child
+//!   asks whether its products fit; and it goes from word to word, so that a node's first word is
+//!   not made of its place at each child.
 //! - All walks of a search use one record of their way in turn, since to clear and to copy one for
 //!   each walk took a twelfth of the time.
 #![tactic(auto)]
