@@ -1,5 +1,7 @@
 //! Buckets: where in a list to look for what was put there. What is found is compared.
 
+ghost use Rattle.std.specs.Prelude.{◌≡◌, ◌<◌, IfOk, get_or, length, slice_set};
+
 use hex_cells::CellSet;
 use std::alloc::{AllocError, Global};
 
@@ -29,19 +31,25 @@ pub struct Heads {
 
 impl Heads {
     /// Buckets with nothing in them.
-    pub fn make(alloc: Global) -> Result<Heads, AllocError> {
+    pub fn make(alloc: Global) -> Result<Heads, AllocError>
+        ensures count { IfOk result (λ h. length h.places.items ≡ BUCKETS) }
+    {
         let mut places = Vec::new(alloc);
         places.resize(BUCKETS, NOWHERE)?;
         Ok(Heads { places })
     }
 
-    /// The newest place of the bucket.
-    pub fn newest(&self, bucket: usize) -> u32 {
+    /// The newest place of the bucket; `NOWHERE` if there is no such bucket.
+    pub fn newest(&self, bucket: usize) -> u32
+        ensures { result ≡ get_or self.now.places.items bucket NOWHERE }
+    {
         self.places.get(bucket).copied().unwrap_or(NOWHERE)
     }
 
     /// Makes this the newest place of the bucket.
-    pub fn set_newest(&mut self, bucket: usize, place: u32) {
+    pub fn set_newest(&mut self, bucket: usize, place: u32)
+        ensures { self.new.places.items ≡ slice_set self.old.places.items bucket place }
+    {
         if let Some(head) = self.places.get_mut(bucket) {
             *head = place;
         }
@@ -57,7 +65,9 @@ pub fn mixed(set: CellSet) -> u64 {
 }
 
 /// The bucket of a number, with a second one.
-pub fn bucket_of(first: u64, second: u64) -> usize {
+pub fn bucket_of(first: u64, second: u64) -> usize
+    ensures { result < BUCKETS }
+{
     let both = first
         ^ second
             .wrapping_mul(HIGH_FACTOR)

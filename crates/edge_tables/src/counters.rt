@@ -1,5 +1,7 @@
 //! The entries of a report on which an entry rests: marked, and counted.
 
+ghost use Rattle.std.specs.Prelude.{◌≡◌, Bool, false, get_or, slice_set};
+
 use super::lists::value_at;
 use super::stops::Stop;
 use conn_store::{Cause, Entry, MOST_ENTRIES};
@@ -18,7 +20,10 @@ pub fn mark(marks: &mut [bool], entries: &[Entry], number: u32) {
 }
 
 /// Whether the place is marked. It is not afterwards.
-pub fn take_mark(marks: &mut [bool], place: usize) -> bool {
+pub fn take_mark(marks: &mut [bool], place: usize) -> bool
+    ensures marked { result ≡ get_or marks.old place false }
+    ensures taken { marks.new ≡ slice_set marks.old place false }
+{
     let marked = is_marked(marks, place);
     if let Some(mark) = marks.get_mut(place) {
         *mark = false;
@@ -27,7 +32,9 @@ pub fn take_mark(marks: &mut [bool], place: usize) -> bool {
 }
 
 // Whether the place is marked.
-fn is_marked(marks: &[bool], place: usize) -> bool {
+fn is_marked(marks: &[bool], place: usize) -> bool
+    ensures { result ≡ get_or marks.now place false }
+{
     marks.get(place).copied().unwrap_or(false)
 }
 

@@ -1,6 +1,8 @@
 //! Covers: few carriers that have no cell in common, so that each stone of the opponent's is
 //! answered by one of them.
 
+ghost use Rattle.std.specs.Prelude.{◌≡◌, ◌≤◌, ◌⊎◌, [], IfOk, length};
+
 use super::stops::Stop;
 use super::tables::EdgeEntry;
 use hex_cells::CellSet;
@@ -54,10 +56,12 @@ pub fn cover(
     list: &[Choice],
     region: CellSet,
     saving: Saving,
-) -> Result<Vec<u32>, Stop> {
+) -> Result<Vec<u32>, Stop>
+    ensures few { IfOk result (λ chosen. (chosen.items ≡ []) ⊎ (2 ≤ length chosen.items)) }
+{
     let mut best = Vec::new(alloc);
     let mut least = u64::MAX;
-    for start in 0..MOST_STARTS + 1 {
+    'starts: for start in 0..MOST_STARTS + 1 {
         let greedy = chosen_from(alloc, list, region, saving, start)?;
         let thin = thinned(list, region, greedy);
         let cost = cost_of(list, &thin, saving);

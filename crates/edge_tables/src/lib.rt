@@ -12,11 +12,15 @@
 //! in common ([`Tables::common`]). [`cover`] picks the cases of a full entry. [`edge_held`],
 //! [`Counter`] and [`mark`] read the entries of a report.
 //!
-//! **What is proved.** That each call is safe and ends. Nothing else is said: who makes a
+//! **What is proved.** That each call is safe and ends. Of small calls, what they answer: which
+//! entry was put at a place, and how many were; that a put adds one at most, and none if it is
+//! refused; the newest place of a bucket, and whether a place is marked; that a cover has two
+//! carriers at least or none. Of the entries that are found nothing is said: who makes a
 //! certificate of what is kept here has it checked.
 //!
-//! **What is only tested, or not said.** What is found again, and how soon. A body that answers
-//! nothing is proved; it finds no winner, which the tests of `hex_found` refuse.
+//! **What is only tested, or not said.** What is found again, and how soon; that a cover's carriers
+//! have no cell in common. A body that answers nothing is proved; it finds no winner, which the
+//! tests of `hex_found` refuse.
 //!
 //! **Limits.** 2,000,000 entries. A full table ends a search like a spent budget.
 //!
@@ -26,7 +30,7 @@
 //!   carrier is empty: what was found at one state decides others.
 //! - A wider entry stays beside a narrower one if it has less than half as many lines: it makes the
 //!   certificate shorter.
-//! - Every loop is a `for`, so that no line of proof is needed.
+//! - Every loop is a `for`, so that of a proof nothing is written but two invariants.
 #![tactic(auto)]
 
 mod buckets;

@@ -1,17 +1,23 @@
-//! Why a search ends without an answer.
+//! Why a call gives up.
+
+ghost use Rattle.std.specs.Prelude.{◌≡◌};
 
 use std::alloc::{AllocError, AllocFailed};
 
-/// Why a search ended without an answer.
+/// Why a call gave up.
 #[derive(Clone, Copy, Debug, PartialEq, Eq)]
 pub enum Stop {
-    /// The budget is spent, or a table is full.
-    Spent,
+    /// A table is full, or a search found no way on.
+    Full,
     /// Memory ran out.
     Memory,
 }
 
 impl From<AllocError> for Stop {
+    ghost use Rattle.edge_tables.specs.declared.stops.Stop.{Stop};
+
+    ghost from_gives = { λ _ stop. stop ≡ Stop.Memory };
+
     fn from(_refused: AllocError) -> Stop {
         Stop::Memory
     }
@@ -24,6 +30,10 @@ impl<T: Drop> From<AllocFailed<T>> for Stop {
 }
 
 impl From<hsearch::Memory> for Stop {
+    ghost use Rattle.edge_tables.specs.declared.stops.Stop.{Stop};
+
+    ghost from_gives = { λ _ stop. stop ≡ Stop.Memory };
+
     fn from(_refused: hsearch::Memory) -> Stop {
         Stop::Memory
     }

@@ -1,5 +1,10 @@
 //! Entries between the edges of each player, by his stones.
 
+ghost use Rattle.std.specs.Prelude.{◌≡◌, ◌+◌, ◌*◌, ◌^◌, ◌≤◌, [], IfOk, OnErr, length, option_map};
+ghost use Rattle.std.specs.List.{slice_get};
+ghost use Rattle.hex_cells.specs.Sets.{members};
+ghost use Rattle.hex_cells.specs.declared.board_size.TheConstants.{MOST_CELLS};
+
 use super::buckets::{Heads, NOWHERE, bucket_of, mixed};
 use super::stops::Stop;
 use conn_store::Kind;
@@ -92,18 +97,24 @@ fn replaces(one: &EdgeEntry, other: &EdgeEntry) -> bool {
 
 impl EdgeEntry {
     /// How much it has of what is measured.
-    pub fn amount(&self, measure: Measure) -> u64 {
+    pub fn amount(&self, measure: Measure) -> u64
+        ensures lines { measure ≡ Measure.Lines → result ≡ self.now.lines }
+        ensures cells { measure ≡ Measure.Cells
+            → result ≡ members self.now.carrier MOST_CELLS * 2 ^ 32 + self.now.lines }
+    {
         let lines = u64::from(self.lines);
         match measure {
             Measure::Lines => lines,
-            Measure::Cells => u64::from(self.carrier.count()) << u32::BITS | lines,
+            Measure::Cells => u64::from(self.carrier.count()) * (1 << u32::BITS) + lines,
         }
     }
 }
 
 impl Tables {
     /// Tables without entries.
-    pub fn make(alloc: Global) -> Result<Tables, Stop> {
+    pub fn make(alloc: Global) -> Result<Tables, Stop>
+        ensures none { IfOk result (λ t. t.slots.items ≡ []) }
+    {
         let heads = Heads::make(alloc)?;
         Ok(Tables {
             slots: Vec::new(alloc),
@@ -112,18 +123,24 @@ impl Tables {
     }
 
     /// How many entries were put, those among them that were made needless.
-    pub fn count(&self) -> usize {
+    pub fn count(&self) -> usize
+        ensures { result ≡ length self.now.slots.items }
+    {
         self.slots.len()
     }
 
     /// The entry that was put at a place.
-    pub fn at(&self, place: usize) -> Option<EdgeEntry> {
+    pub fn at(&self, place: usize) -> Option<EdgeEntry>
+        ensures { result ≡ option_map (λ s. s.entry) (slice_get self.now.slots.items place) }
+    {
         let slot = self.slots.get(place)?;
         Some(slot.entry)
     }
 
     /// Says how many lines the entry at a place has.
-    pub fn set_lines(&mut self, place: usize, lines: u32) {
+    pub fn set_lines(&mut self, place: usize, lines: u32)
+        ensures count { length self.new.slots.items ≡ length self.old.slots.items }
+    {
         if let Some(slot) = self.slots.get_mut(place) {
             slot.entry.lines = lines;
         }
@@ -195,13 +212,18 @@ impl Tables {
     }
 
     /// Keeps an entry, unless one that is kept makes it needless; those that it makes needless go.
-    pub fn put(&mut self, entry: &EdgeEntry) -> Result<(), Stop> {
+    pub fn put(&mut self, entry: &EdgeEntry) -> Result<(), Stop>
+        ensures kept { length self.old.slots.items ≤ length self.new.slots.items }
+        ensures fewer { length self.new.slots.items ≤ length self.old.slots.items + 1 }
+        ensures refused { OnErr result
+            (length self.new.slots.items ≡ length self.old.slots.items) }
+    {
         if self.is_needless(entry) {
             return Ok(());
         }
         self.drop_needless(entry);
         if MOST_ENTRIES <= self.slots.len() {
-            return Err(Stop::Spent);
+            return Err(Stop::Full);
         }
         let place = self.slots.len() as u32;
         let bucket = bucket(&entry.key);
@@ -237,11 +259,13 @@ impl Tables {
     }
 
     // Takes those out of their bucket that this one makes needless.
-    fn drop_needless(&mut self, new: &EdgeEntry) {
+    fn drop_needless(&mut self, new: &EdgeEntry)
+        ensures { length self.new.slots.items ≡ length self.old.slots.items }
+    {
         let bucket = bucket(&new.key);
         let mut previous = NOWHERE;
         let mut place = self.heads.newest(bucket);
-        for _step in 0..MOST_ENTRIES {
+        'slots: for _step in 0..MOST_ENTRIES {
             let Some(slot) = self.slots.get(place as usize) else {
                 return;
             };
@@ -256,7 +280,9 @@ impl Tables {
     }
 
     // Makes the one at `next` follow the one at `previous`, or the first of the bucket.
-    fn link(&mut self, bucket: usize, previous: u32, next: u32) {
+    fn link(&mut self, bucket: usize, previous: u32, next: u32)
+        ensures { length self.new.slots.items ≡ length self.old.slots.items }
+    {
         match self.slots.get_mut(previous as usize) {
             Some(slot) => slot.before = next,
             None => self.heads.set_newest(bucket, next),

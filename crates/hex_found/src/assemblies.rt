@@ -185,15 +185,13 @@ impl Assembly {
         entry: &EdgeEntry,
         region: CellSet,
     ) -> Result<u32, Stop> {
-        let board = cut_board(self.size, self.player, entry.key.stones, region);
+        let board = cut_board(self.size, &entry.key, region);
         derive(
             alloc,
             &mut self.blocks,
             &mut self.room,
             &board,
-            self.player,
-            entry.key.kind,
-            entry.carrier,
+            entry,
             block.first,
         )
     }
@@ -230,7 +228,7 @@ impl Assembly {
             return Ok(false);
         }
         if MOST_PARTS < first {
-            return Err(Stop::Spent);
+            return Err(Stop::Full);
         }
         self.add_cases(&semi, &list, &chosen)?;
         self.blocks.serve(
@@ -271,7 +269,7 @@ impl Assembly {
         for cases in waiting {
             let from = self.blocks.cases.len();
             if MOST_PARTS < from {
-                return Err(Stop::Spent);
+                return Err(Stop::Full);
             }
             let count = self.list_cases(cases)?;
             let part = Part::Cases(from as u32, count);

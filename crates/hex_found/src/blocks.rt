@@ -134,7 +134,7 @@ impl Blocks {
             return Ok(there);
         }
         if MOST_PARTS <= count {
-            return Err(Stop::Spent);
+            return Err(Stop::Full);
         }
         let bucket = bucket_of(mixed(stones), 0);
         self.scopes.push(Scope {
@@ -158,7 +158,7 @@ impl Blocks {
         let scope = self.scope_of(stones)?;
         let place = self.needs.len();
         if MOST_PARTS <= place {
-            return Err(Stop::Spent);
+            return Err(Stop::Full);
         }
         let before = self.newest_need(scope);
         self.needs.push(Need {
@@ -201,7 +201,7 @@ impl Blocks {
         }
         let place = self.steps.len();
         if MOST_PARTS <= place {
-            return Err(Stop::Spent);
+            return Err(Stop::Full);
         }
         let bucket = part_bucket(part, first);
         self.steps.push(Step {
@@ -221,7 +221,7 @@ impl Blocks {
         first
     }
 
-    /// Says that they end here.
+    /// Says that the lines of the scope at a place end here.
     pub(crate) fn end(&mut self, place: u32) {
         let end = self.step_count();
         if let Some(scope) = self.scopes.get_mut(place as usize) {

@@ -51,7 +51,7 @@ impl Blocks {
         count
     }
 
-    /// The cells that the regions of these have in common.
+    /// The common cells of the regions of all open needs that such a carrier serves.
     pub(crate) fn served_region(&self, scope: u32, kind: Kind, carrier: CellSet) -> CellSet {
         let mut cells = self.open_cells(scope, kind);
         let mut place = self.newest_need(scope);
@@ -67,7 +67,8 @@ impl Blocks {
         cells
     }
 
-    /// Says of these which line shows them, or for which cases they wait.
+    /// Says of the open needs that such a carrier serves which line shows them, or for which cases
+    /// they wait.
     pub(crate) fn serve(
         &mut self,
         scope: u32,
@@ -88,7 +89,7 @@ impl Blocks {
         }
     }
 
-    /// Says of those of a scope that wait for these cases which line shows them.
+    /// Says of the needs of a scope that wait for these cases which line shows them.
     pub(crate) fn serve_waiting(&mut self, scope: u32, waits: u32, line: u32) {
         let mut place = self.newest_need(scope);
         for _step in 0..MOST_PARTS {

@@ -28,7 +28,7 @@ fn recount_some(
         if let Some(entry) = tables.at(place)
             && is_of(&entry, player, kind, stones)
         {
-            let lines = lines_of(alloc, tables, &entry)?;
+            let lines = lines_now(alloc, tables, &entry)?;
             tables.set_lines(place, lines);
         }
     }
@@ -42,7 +42,7 @@ fn is_of(entry: &EdgeEntry, player: Colour, kind: Kind, stones: u32) -> bool {
 }
 
 // The lines of an entry by what is known now.
-fn lines_of(alloc: Global, tables: &Tables, entry: &EdgeEntry) -> Result<u32, Stop> {
+fn lines_now(alloc: Global, tables: &Tables, entry: &EdgeEntry) -> Result<u32, Stop> {
     match entry.origin {
         Origin::Cut(_) => Ok(entry.lines),
         Origin::Move(cell) => {

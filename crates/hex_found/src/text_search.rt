@@ -72,7 +72,9 @@ fn search(
     let mut search = Search::make(alloc, Order::BEST)?;
     let outcome = search.decide(alloc, root, budget);
     sought.entered = outcome.entered;
-    let by_mover = outcome.by_mover?;
+    let Some(by_mover) = outcome.by_mover? else {
+        return Ok(());
+    };
     sought.by_mover = Some(by_mover);
     let player = if by_mover {
         root.mover

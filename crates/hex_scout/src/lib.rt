@@ -15,12 +15,13 @@
 //! by a full one of the other's, if no reply is left, or by a reply after which the mover has a
 //! full entry. If no reply is left, the other's semi entries are the cases of a full one.
 //!
-//! **What is proved.** That each call is safe and ends, and that no more states are counted as
-//! entered than the budget has. Of who wins nothing is said: `hex_found` makes certificates of what
-//! was found, and these are checked.
+//! **What is proved.** That each call is safe and ends. That no more states are counted as entered
+//! than the budget has, that it is told to be spent only if as many were counted, and that a search
+//! gets at most one node for each. Of who wins nothing is said: `hex_found` makes certificates of
+//! what was found, and these are checked.
 //!
-//! **What is only tested, or not said.** Who wins, how soon it is found, and that each state that
-//! is entered is counted.
+//! **What is only tested, or not said.** Who wins, and how soon it is found; that each state that
+//! is counted was entered.
 //!
 //! **Limits.** 1,000,000 nodes and the entries of `edge_tables`. A full table ends a search like a
 //! spent budget.
@@ -31,7 +32,8 @@
 //!   has begun finds proofs with ten times as many lines.
 //! - A node looks at half of its cells and one more, by the sum of both players' distances between
 //!   their edges. If these lose, others follow, since a cell that is answered is no reply.
-//! - Every loop is a `for`, so that no line of proof is needed.
+//! - Every loop is a `for`, so that of a proof nothing is written but invariants: how many nodes
+//!   there are.
 //!
 //! Source: focused proof-number search, which looks at a part of a node's moves, over H-search and
 //! mustplay regions (P. Henderson, B. Arneson and R. Hayward).

@@ -1,5 +1,7 @@
 //! The nodes of a proof-number search: the states that were entered.
 
+ghost use Rattle.std.specs.Prelude.{◌≡◌, ◌+◌, ◌≤◌, length};
+
 use edge_tables::{Heads, Stop, bucket_of, mixed};
 use hex_board::Board;
 use hex_cells::{Cell, CellSet, Colour, MOST_CELLS};
@@ -50,7 +52,7 @@ struct Node {
 /// The nodes, with the cells of each in the order in which they are tried.
 #[derive(Drop)]
 pub(crate) struct Nodes {
-    nodes: Vec<Node>,
+    list: Vec<Node>,
     cells: Vec<u8>,
     heads: Heads,
 }
@@ -65,7 +67,7 @@ impl Nodes {
     pub(crate) fn make(alloc: Global) -> Result<Nodes, Stop> {
         let heads = Heads::make(alloc)?;
         Ok(Nodes {
-            nodes: Vec::new(alloc),
+            list: Vec::new(alloc),
             cells: Vec::new(alloc),
             heads,
         })
@@ -75,7 +77,7 @@ impl Nodes {
     pub(crate) fn find(&self, black: CellSet, white: CellSet) -> u32 {
         let mut place = self.heads.newest(bucket(black, white));
         for _step in 0..MOST_NODES {
-            let Some(node) = self.nodes.get(place as usize) else {
+            let Some(node) = self.list.get(place as usize) else {
                 return place;
             };
             if node.black == black && node.white == white {
@@ -93,27 +95,29 @@ impl Nodes {
 
     /// Whether a node is at this place.
     pub(crate) fn is_at(&self, place: u32) -> bool {
-        (place as usize) < self.nodes.len()
+        (place as usize) < self.list.len()
     }
 
     /// The effort at a place.
     pub(crate) fn effort(&self, place: u32) -> Effort {
-        match self.nodes.get(place as usize) {
+        match self.list.get(place as usize) {
             Some(node) => node.effort,
             None => Effort::FRESH,
         }
     }
 
     /// Sets the effort at a place, if a node is there.
-    pub(crate) fn set_effort(&mut self, place: u32, effort: &Effort) {
-        if let Some(node) = self.nodes.get_mut(place as usize) {
+    pub(crate) fn set_effort(&mut self, place: u32, effort: &Effort)
+        ensures count { length self.new.list.items ≡ length self.old.list.items }
+    {
+        if let Some(node) = self.list.get_mut(place as usize) {
             node.effort = *effort;
         }
     }
 
     /// How many cells the node at a place has.
     pub(crate) fn cell_count(&self, place: u32) -> u32 {
-        match self.nodes.get(place as usize) {
+        match self.list.get(place as usize) {
             Some(node) => node.count,
             None => 0,
         }
@@ -121,9 +125,7 @@ impl Nodes {
 
     /// Its cell with this number, from 0.
     pub(crate) fn cell(&self, place: u32, number: u32) -> Option<Cell> {
-        let Some(node) = self.nodes.get(place as usize) else {
-            return None;
-        };
+        let node = self.list.get(place as usize)?;
         match self.cells.get(node.first.saturating_add(number) as usize) {
             Some(cell) if u32::from(*cell) < MOST_CELLS => Some(Cell::numbered(u32::from(*cell))),
             _ => None,
@@ -131,16 +133,18 @@ impl Nodes {
     }
 
     /// Puts a node on this board with these cells, at most as many as a board has.
-    pub(crate) fn put(&mut self, board: &Board, cells: &[u8]) -> Result<(), Stop> {
+    pub(crate) fn put(&mut self, board: &Board, cells: &[u8]) -> Result<(), Stop>
+        ensures fewer { length self.new.list.items ≤ length self.old.list.items + 1 }
+    {
         let (black, white) = (board.stones(Colour::Black), board.stones(Colour::White));
-        let place = self.nodes.len();
+        let place = self.list.len();
         let first = self.cells.len();
         if MOST_NODES <= place || MOST_NODES * MOST_CELLS as usize <= first {
-            return Err(Stop::Spent);
+            return Err(Stop::Full);
         }
         let bucket = bucket(black, white);
         self.cells.extend_from_slice(cells)?;
-        self.nodes.push(Node {
+        self.list.push(Node {
             black,
             white,
             effort: Effort::FRESH,

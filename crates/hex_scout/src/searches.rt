@@ -1,7 +1,7 @@
 //! Proof-number search without recursion. A round goes from the root down to a state that is new,
 //! enters it, and goes back up.
 
-ghost use Rattle.std.specs.Prelude.{◌≤◌};
+ghost use Rattle.std.specs.Prelude.{◌≡◌, ◌+◌, ◌≤◌, Bool, None, Ok, Some, length};
 
 use super::distances::add_ways;
 use super::nodes::{Effort, MOST_NODES, NEVER, Nodes};
@@ -19,10 +19,19 @@ use std::alloc::Global;
 /// What a search came to.
 #[derive(Debug, Drop)]
 pub struct Outcome {
-    /// Whether the player to move wins, or why that isn't known.
-    pub by_mover: Result<bool, Stop>,
+    /// Whether the player to move wins, `None` if the budget is spent; or why the search gave up.
+    pub by_mover: Result<Option<bool>, Stop>,
     /// How many states were entered, with the one at which it stopped.
     pub entered: u64,
+}
+
+// Where the rounds lead.
+#[derive(Clone, Copy, Debug, PartialEq, Eq)]
+enum Way {
+    // It is known whether the player to move wins.
+    Known(bool),
+    // To this state, which is new.
+    New(State),
 }
 
 /// A search, with what it knows.
@@ -63,20 +72,24 @@ impl Search {
         self.tables.put_all(&other.tables)
     }
 
-    /// Goes on until it is known who wins, or so many states were entered.
+    /// Goes on until it is known who wins, or so many states were entered. It gets at most one node
+    /// for each of them, and that the budget is spent is told only if they are as many.
     ///
-    /// Each turn of its loop enters one. That none enters two is by the code, and no clause says
-    /// it.
+    /// A body that gives up, or that counts states and enters none, is proved; tests tell what is
+    /// found.
     pub fn decide(&mut self, alloc: Global, root: &State, budget: u64) -> Outcome
         ensures within { result.entered ≤ budget }
+        ensures spent { result.by_mover ≡ Ok None → result.entered ≡ budget }
+        ensures nodes { length self.new.nodes.list.items
+            ≤ length self.old.nodes.list.items + result.entered }
     {
         let mut path = Vec::new(alloc);
-        for entered in 0..budget {
+        'turns: for entered in 0..budget {
             match self.enter_next(alloc, root, &mut path) {
                 Ok(None) => {}
                 Ok(Some(by_mover)) => {
                     return Outcome {
-                        by_mover: Ok(by_mover),
+                        by_mover: Ok(Some(by_mover)),
                         entered,
                     };
                 }
@@ -89,7 +102,8 @@ impl Search {
             }
         }
         let by_mover = match self.go_down(alloc, root, &mut path) {
-            Ok(known) => known.ok_or(Stop::Spent),
+            Ok(Way::Known(by_mover)) => Ok(Some(by_mover)),
+            Ok(Way::New(_)) => Ok(None),
             Err(stop) => Err(stop),
         };
         Outcome {
@@ -104,36 +118,38 @@ impl Search {
         alloc: Global,
         root: &State,
         path: &mut Vec<State>,
-    ) -> Result<Option<bool>, Stop> {
-        let known = self.go_down(alloc, root, path)?;
-        if known.is_none()
-            && let Some(state) = path.last()
-        {
-            self.enter(alloc, state)?;
-            self.up(alloc, path)?;
+    ) -> Result<Option<bool>, Stop>
+        ensures fewer { length self.new.nodes.list.items
+            ≤ length self.old.nodes.list.items + 1 }
+        ensures known { (by_mover : Bool) → result ≡ Ok (Some by_mover)
+            → length self.new.nodes.list.items ≡ length self.old.nodes.list.items }
+    {
+        match self.go_down(alloc, root, path)? {
+            Way::Known(by_mover) => Ok(Some(by_mover)),
+            Way::New(state) => {
+                self.enter(alloc, &state)?;
+                self.up(alloc, path)?;
+                Ok(None)
+            }
         }
-        Ok(known)
     }
 
     // Rounds until the path leads to a state that is new, or it is known whether the player to move
     // wins. One that meets no new state decides a node, so there are at most as many.
-    fn go_down(
-        &mut self,
-        alloc: Global,
-        root: &State,
-        path: &mut Vec<State>,
-    ) -> Result<Option<bool>, Stop> {
-        for _round in 0..MOST_NODES {
+    fn go_down(&mut self, alloc: Global, root: &State, path: &mut Vec<State>) -> Result<Way, Stop>
+        ensures count { length self.new.nodes.list.items ≡ length self.old.nodes.list.items }
+    {
+        'rounds: for _round in 0..MOST_NODES {
             if let Some(by_mover) = self.known(root) {
-                return Ok(Some(by_mover));
+                return Ok(Way::Known(by_mover));
             }
             path.clear();
-            if self.down(alloc, root, path)? {
-                return Ok(None);
+            if let Some(state) = self.down(alloc, root, path)? {
+                return Ok(Way::New(state));
             }
             self.up(alloc, path)?;
         }
-        Err(Stop::Spent)
+        Err(Stop::Full)
     }
 
     // Whether the player to move wins, if an entry says so.
@@ -155,29 +171,38 @@ impl Search {
         self.tables.common(&key, state.board.empties())
     }
 
-    // The path down from the root, to a state that is decided or new: whether it is new.
-    fn down(&mut self, alloc: Global, root: &State, path: &mut Vec<State>) -> Result<bool, Stop> {
+    // The path down from the root, to a state that is decided or new: this state, if it is new.
+    fn down(
+        &mut self,
+        alloc: Global,
+        root: &State,
+        path: &mut Vec<State>,
+    ) -> Result<Option<State>, Stop>
+        ensures count { length self.new.nodes.list.items ≡ length self.old.nodes.list.items }
+    {
         let mut state = *root;
-        for _depth in 0..MOST_CELLS {
+        'stones: for _depth in 0..MOST_CELLS {
             path.push(state)?;
             if self.settle(alloc, &state)? {
-                return Ok(false);
+                return Ok(None);
             }
             let place = self.nodes.find_board(&state.board);
             if !self.nodes.is_at(place) {
-                return Ok(true);
+                return Ok(Some(state));
             }
             let (_effort, Some(cell)) = self.next(&state, place) else {
-                return Err(Stop::Spent);
+                return Err(Stop::Full);
             };
             state = state.after(cell);
         }
-        Ok(false)
+        Ok(None)
     }
 
     // Back up the path.
-    fn up(&mut self, alloc: Global, path: &[State]) -> Result<(), Stop> {
-        for place in (0..path.len()).rev() {
+    fn up(&mut self, alloc: Global, path: &[State]) -> Result<(), Stop>
+        ensures count { length self.new.nodes.list.items ≡ length self.old.nodes.list.items }
+    {
+        'states: for place in (0..path.len()).rev() {
             if let Some(state) = path.get(place) {
                 self.renew(alloc, state)?;
             }
@@ -186,7 +211,9 @@ impl Search {
     }
 
     // Settles a state, or sets its effort anew.
-    fn renew(&mut self, alloc: Global, state: &State) -> Result<(), Stop> {
+    fn renew(&mut self, alloc: Global, state: &State) -> Result<(), Stop>
+        ensures count { length self.new.nodes.list.items ≡ length self.old.nodes.list.items }
+    {
         if !self.settle(alloc, state)? {
             let place = self.nodes.find_board(&state.board);
             let (effort, _cell) = self.next(state, place);
@@ -196,7 +223,9 @@ impl Search {
     }
 
     // Whether it is known who wins; if so, the effort is set.
-    fn settle(&mut self, alloc: Global, state: &State) -> Result<bool, Stop> {
+    fn settle(&mut self, alloc: Global, state: &State) -> Result<bool, Stop>
+        ensures count { length self.new.nodes.list.items ≡ length self.old.nodes.list.items }
+    {
         let place = self.nodes.find_board(&state.board);
         let decided = self.winner(alloc, state, place)?;
         if let Some(by_mover) = decided {
@@ -206,7 +235,9 @@ impl Search {
     }
 
     // Whether the player to move wins, if that follows from what is known by one step.
-    fn winner(&mut self, alloc: Global, state: &State, place: u32) -> Result<Option<bool>, Stop> {
+    fn winner(&mut self, alloc: Global, state: &State, place: u32) -> Result<Option<bool>, Stop>
+        ensures count { length self.new.nodes.list.items ≡ length self.old.nodes.list.items }
+    {
         if let Some(by_mover) = self.known(state) {
             return Ok(Some(by_mover));
         }
@@ -255,7 +286,9 @@ impl Search {
     }
 
     // Puts the full entry of the other player by cases, since no reply is left.
-    fn put_cases(&mut self, alloc: Global, state: &State) -> Result<(), Stop> {
+    fn put_cases(&mut self, alloc: Global, state: &State) -> Result<(), Stop>
+        ensures count { length self.new.nodes.list.items ≡ length self.old.nodes.list.items }
+    {
         let empties = state.board.empties();
         let semi = state.other_key(Kind::Semi);
         let list = choices_of(alloc, &self.tables.list(alloc, &semi, empties)?)?;
@@ -314,7 +347,10 @@ impl Search {
 
     // Enters a state: looks at the mover's report, and if that doesn't end it at the other's, and
     // makes a node of it if these don't.
-    fn enter(&mut self, alloc: Global, state: &State) -> Result<(), Stop> {
+    fn enter(&mut self, alloc: Global, state: &State) -> Result<(), Stop>
+        ensures fewer { length self.new.nodes.list.items
+            ≤ length self.old.nodes.list.items + 1 }
+    {
         let own = connect(alloc, &state.board, state.mover)?;
         if 0 < self.keep(own.store(), Kind::Semi)? {
             return Ok(());
@@ -342,16 +378,20 @@ impl Search {
     }
 
     // Puts the entries of a kind between the edges: how many there are.
-    fn keep(&mut self, store: &Store, kind: Kind) -> Result<u32, Stop> {
+    fn keep(&mut self, store: &Store, kind: Kind) -> Result<u32, Stop>
+        ensures count { length self.new.nodes.list.items ≡ length self.old.nodes.list.items }
+    {
         let held = edge_held(store, kind);
-        for place in 0..held.count {
+        'entries: for place in 0..held.count {
             self.keep_one(store, kind, value_at(&held.at, place as usize))?;
         }
         Ok(held.count)
     }
 
     // Puts an entry between the edges.
-    fn keep_one(&mut self, store: &Store, kind: Kind, number: u32) -> Result<(), Stop> {
+    fn keep_one(&mut self, store: &Store, kind: Kind, number: u32) -> Result<(), Stop>
+        ensures count { length self.new.nodes.list.items ≡ length self.old.nodes.list.items }
+    {
         let entries = store.entries();
         let Some(entry) = entries.get(number as usize) else {
             return Ok(());

@@ -1,0 +1,5 @@
+use Rattle.std.proofs.Common.{◌≡◌, ◌≤◌, ◌⊎◌, [], length}
+use Rattle.edge_tables.proofs.covers.cover.Given as goal
+
+abbrev pub invariant-starts : goal.invariant-starts
+invariant-starts l = (l.best.items ≡ []) ⊎ (2 ≤ length l.best.items)
