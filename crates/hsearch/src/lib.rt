@@ -37,6 +37,10 @@
 //! - That its own pairs add nothing is a law and no test: a semi entry has a cell in its carrier.
 //! - An entry over three ways is made of ways at falling places of the index, so no set of ways is
 //!   tried twice, and of none of which the first two will do.
+//! - Ends, kinds and carriers are tested before an entry is made of them. Whether the pair is full,
+//!   or has a smaller carrier, the store tests on the entry, once for all rules.
+//! - A report makes its lists at its beginning: one of waiting entries for each size of a carrier,
+//!   and one of taken entries for each element. That is little beside what follows.
 #![tactic(auto)]
 
 mod combining;

@@ -26,7 +26,7 @@
 //! counts how many are at it at once. That memory suffices, that more threads are faster, and which
 //! side is the better one.
 //!
-//! **Limits.** Those of [`Match`] and [`Side`]. A thread holds one tree at a time: 16 bytes for
+//! **Limits.** Those of [`Match`] and [`Side`]. A thread holds one tree at a time: 8 bytes for
 //! each of a side's words, its playouts and six more. If no thread can be made, games are played in
 //! turn.
 //!
