@@ -1,29 +1,38 @@
 -- What stands after the adds and the record.
-use Rattle.std.proofs.Common.{◌≡◌, ◌≢◌, ℕ, ◌+◌, ◌<◌, ◌≤◌, true, List, [], ◌∷◌, set}
+use Rattle.std.proofs.Common.{◌≡◌, ◌≢◌, ℕ, ◌+◌, ◌<◌, ◌≤◌, Bool, true, cond, List, [], ◌∷◌, set}
 use Rattle.std.proofs.Common.{get_or, get_or-set_same, get_or-set_other, refl, sym, ap, ◌∙◌, subst}
 use Rattle.std.proofs.Common.{⊎_elim, arith}
 use Rattle.std.proofs.Math.ListN.{length-set}
 use Rattle.tree_words.specs.Settings.{Setting}
 use Rattle.tree_words.specs.Words.{Count, count_in, root_at, area_at, end_of, next_in, tally_in}
 use Rattle.tree_words.specs.Words.{seen_in}
-use Rattle.tree_words.specs.Blocks.{LinkedBlock, is_node, In}
+use Rattle.tree_words.specs.Blocks.{LinkedBlock, child, place, cell_at, is_node, In}
 use Rattle.tree_words.specs.Paths.{NodeState, root_state}
 use Rattle.tree_words.specs.Complete.{AreComplete}
 use Rattle.tree_words.specs.Walks.{nothing, plus, Game, AtMost}
 use Rattle.play_out.specs.declared.playouts.Ending.{Ending}
 use Rattle.tree_words.specs.Sequence.{search_game}
 use Rattle.tree_words.specs.Trees.{oldest_first}
-use Rattle.tree_words.specs.Descents.{Added, adds, sees, top}
+use Rattle.tree_words.specs.Descents.{Added, pick, adds, sees_leaf, sees_inner, sees, top, Out}
 use Rattle.tree_words.specs.Descents.{Inside, config_of}
+use Rattle.tree_words.proofs.Walks.Down.{down-split}
 use Rattle.tree_words.proofs.Blocks.BlockLaws.{root_node}
 use Rattle.tree_words.proofs.Blocks.Orders.{inside-node}
 use Rattle.seq_search.specs.Steps.{Holds, Records}
 use Rattle.seq_search.specs.Adding.{Counted}
-use Rattle.tree_words.proofs.Blocks.GameLaws.{fair_game}
-use Rattle.tree_words.proofs.Walks.Bridges.{sees-out}
 use Rattle.tree_words.proofs.Walks.Leaves.{root-out}
 use Rattle.tree_words.proofs.Blocks.NodeLaws.{nodes-apart, stays-clear, node-lies, under-root}
 use Rattle.tree_words.proofs.Walks.Countings.{adds-one, sees-one}
+
+module _ {S O : Type 0} (g : Game S O) (p q : ℕ → Count) (o : O) where
+  -- what is a node of no block is not seen
+  sees-out : (os : List LinkedBlock) (x w : ℕ) (s : S) → Out os w → sees g p q o os x s w ≡ nothing
+  sees-out [] x w s out = refl
+  sees-out (b ∷ os) x w s out = down-split (sees_leaf g p q o) (sees_inner g p q o)
+      (λ (f : S → ℕ → Count). f s w ≡ nothing) b os x
+      (λ t. ap (λ (u : Bool). cond u (g.glimpse o s (cell_at b (place b w))) (sees g p q o os (child b (pick g p q b x)) (g.next s (cell_at b (pick g p q b x))) w)) out.0
+      ∙ sees-out os (child b (pick g p q b x)) w (g.next s (cell_at b (pick g p q b x))) out.1)
+      (λ t. sees-out os x w s out.1)
 
 plus-most : (k : ℕ) (a b c : Count) → c ≡ plus a b → AtMost k a → AtMost 1 b → AtMost (k + 1) c
 plus-most k a b c e ha hb
@@ -82,7 +91,7 @@ module _ (s : Setting) (bs : List LinkedBlock) (before middle : List ℕ) (k n :
       ) in
       let unseen : seen_in after r ≡ nothing
       = seen-is r (root_node r bs)
-      ∙ (λ i. plus (count_in (h.root.1 i)) (sees-out g (fair_game s) (tally_in before) (seen_in before) o (oldest_first bs) r r (root_state s) (root-out r bs h.linked.order) i)) in
+      ∙ (λ i. plus (count_in (h.root.1 i)) (sees-out g (tally_in before) (seen_in before) o (oldest_first bs) r r (root_state s) (root-out r bs h.linked.order) i)) in
       record {
         long = length-set middle (2 + k) n ∙ c.long ∙ h.long;
         linked = record {
