@@ -51,7 +51,7 @@ pub(crate) fn choose(words: &[u64], block: usize, visits: u32, weight: u32) -> u
     let mut best = first;
     let mut most = 0;
     let mut bar = 0;
-    // A node is told by its first word: of a place it would have to be made at each child.
+    // It counts words: from a place a node's first word would be computed at each child.
     let mut at = first;
     'children: while at < past {
         let tally = words[at + TALLY_WORD];
