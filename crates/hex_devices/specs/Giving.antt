@@ -6,7 +6,7 @@ use Rattle.hex_devices.specs.declared.stops.Stop.{Stop}
 use Rattle.hex_devices.specs.declared.stops.Stop.TheVariants.{ReadFault, WriteFault, Memory}
 use Rattle.hex_devices.specs.declared.stops.Stop.TheVariants.{TooLong, ArchiveFault}
 
--- The text was given; at a write fault a front of it that is not all of it; and nothing where there
+-- The text was given; at a write fault a prefix of it that is not all of it; and nothing if there
 -- was another reason to stop.
 abbrev pub GivesText : Option Stop → List ℕ → Option Told → Option Told → Type 0
 GivesText None text old new = Gave old new text

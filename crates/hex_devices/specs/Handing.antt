@@ -11,7 +11,7 @@ use Rattle.hex_devices.specs.declared.stops.Stop.TheVariants.{TooLong, ArchiveFa
 abbrev pub TookTurn : TurnData → Option (List TurnData) → Option (List TurnData) → Type 0
 TookTurn turn old new = Both old new (λ before now. now ≡ before ++ turn ∷ [])
 
--- The turn was taken and then its text given, or at a write fault a front of it that is not all of
+-- The turn was taken and then its text given, or at a write fault a prefix of it that is not all of
 -- it. Where the archive failed, it has the same turns, and nothing was given. Nothing was read.
 abbrev pub HandsOver : LinkAndArchive → LinkAndArchive → TurnData → List ℕ
     → Outcome → Type 0

@@ -54,12 +54,12 @@ abbrev pub AnsweredAll : TextOf → Bool → ℕ → Told → Told → Type 0
 AnsweredAll Answers accepted limit old new =
     (text : List ℕ) × IsAnswer Answers accepted limit old new text text
 
--- a front of the text was given that is not all of it
+-- a prefix of the text was given that is not all of it
 abbrev pub AnsweredPart : TextOf → ℕ → Told → Told → Type 0
 AnsweredPart Answers limit old new = (accepted : Bool) × (front : List ℕ) × (others : List ℕ)
     × (0 < length others) × IsAnswer Answers accepted limit old new (front ++ others) front
 
--- The whole input was answered by its text, or a front of it that is not all if a write failed.
+-- The whole input was answered by its text, or a prefix of it that is not all if a write failed.
 -- If it was not taken whole, or memory ran out, nothing was given.
 abbrev pub AnswersInput : TextOf → Option Told → Option Told → ℕ → Result Bool Stop → Type 0
 AnswersInput Answers old new limit (Ok accepted) =

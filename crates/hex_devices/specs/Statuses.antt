@@ -54,7 +54,7 @@ error_line (Stopped Memory) = codes "hexd: out of memory\n"
 error_line (Stopped TooLong) = codes "hexd: input too long\n"
 error_line (Stopped ArchiveFault) = codes "hexd: archive fault\n"
 
--- the errors were given the line of the status, or a front of it if a write failed
+-- the errors were given the line of the status, or a prefix of it if a write failed
 abbrev pub Reports : {E : Type 0} → links.Ghosts E → ℕ → E → E → Type 0
 Reports e status old new = (end : End) → status ≡ status_of end
     → Reported (e.told old) (e.told new) (e.write_faults old) (e.write_faults new) (error_line end)
