@@ -3,8 +3,8 @@ use Rattle.std.proofs.Common.{Bool, ℕ, ◌≡◌, subst}
 use Rattle.hex_cells.specs.declared.colours.Colour.{Colour}
 use Rattle.hex_board.specs.Positions.{Position}
 use Rattle.hex_game.specs.Games.{GameData, board_of}
-use Rattle.hex_solve.specs.Solved.{OpenIsFull, TooLongNeedsMany, UnknownNeedsMore, WinnerWins}
-use Rattle.hex_solve.specs.Solved.{WonIsCertified, WonIsShort}
+use Rattle.hex_solve.specs.Solved.{OpenIsFull, TooLongIsCounted, TooLongNeedsMany}
+use Rattle.hex_solve.specs.Solved.{UnknownNeedsMore, WinnerWins, WonIsCertified, WonIsShort}
 use Rattle.hex_solve.specs.declared.answers.Solved.{Solved}
 use Rattle.hex_solve.specs.declared.answers.Solved.TheVariants.{Won, Unknown, TooLong, Open}
 use Rattle.hex_cli.specs.SolveTexts.{IsSolved, next_mover}
@@ -13,14 +13,15 @@ use Rattle.hex_cli.specs.SolveTexts.{IsSolved, next_mover}
 pub solved_by : (hsearch : Bool) (budget : ℕ) (p : Position) (mover : Colour) (solved : Solved)
     → WinnerWins p mover solved → WonIsCertified p mover solved → WonIsShort p mover hsearch solved
     → UnknownNeedsMore p mover hsearch budget solved → TooLongNeedsMany p mover solved
-    → OpenIsFull p solved
+    → TooLongIsCounted p mover solved → OpenIsFull p solved
     → IsSolved hsearch budget p mover solved
-solved_by hsearch budget p mover (Won winner cert) wins won short unknown long filled
+solved_by hsearch budget p mover (Won winner cert) wins won short unknown long counted filled
     = (wins, won, short)
-solved_by hsearch budget p mover (Unknown spent own) wins won short unknown long filled = unknown
-solved_by hsearch budget p mover (TooLong winner lines) wins won short unknown long filled
-    = (wins, long.0, long.1, long.2)
-solved_by hsearch budget p mover (Open full) wins won short unknown long filled = filled
+solved_by hsearch budget p mover (Unknown spent own) wins won short unknown long counted filled =
+    unknown
+solved_by hsearch budget p mover (TooLong winner lines) wins won short unknown long counted filled
+    = (wins, long.0, long.1, long.2, counted)
+solved_by hsearch budget p mover (Open full) wins won short unknown long counted filled = filled
 
 pub solved_of_game : (hsearch : Bool) (budget : ℕ) (game : GameData) (p : Position) (mover : Colour)
     (solved : Solved) → p ≡ board_of game → mover ≡ next_mover game.steps

@@ -1,5 +1,5 @@
 -- What mode solve answers.
-use Rattle.std.specs.Prelude.{◌≡◌, ◌⊎◌, ◌-◌, ◌*◌, ◌<◌, ◌≤◌, ℕ, Bool, true, false}
+use Rattle.std.specs.Prelude.{◌≡◌, ◌⊎◌, ◌-◌, ◌*◌, ◌^◌, ◌<◌, ◌≤◌, ℕ, Bool, true, false}
 use Rattle.std.specs.Prelude.{List, ◌++◌, Some, None, codes, length}
 use Rattle.std.specs.Fmt.{decimal}
 use Rattle.std.specs.List.{slice_get}
@@ -16,7 +16,7 @@ use Rattle.win_cert.specs.declared.certs.TheConstants.{MOST_LINES}
 use Rattle.hex_game.specs.Games.{GameData, board_of}
 use Rattle.hex_game.specs.declared.moves.Step.{Step}
 use Rattle.sgf_game.specs.RecordOf.{IsGameOf}
-use Rattle.hex_solve.specs.Deciding.{need}
+use Rattle.hex_solve.specs.Deciding.{lines_needed, need}
 use Rattle.hex_found.specs.Found.{Certifies}
 use Rattle.hex_solve.specs.Solved.{IsOpenBoard, IsOwnReport, few_cells}
 use Rattle.hex_solve.specs.declared.answers.Solved.{Solved}
@@ -46,9 +46,10 @@ CanBeWritten (Open full) = Unit {0}
 -- What the solver may answer, with connections or without and with this budget, of the position p
 -- with `mover` to place. Who is told to win does, whatever the other does. His certificate shows
 -- it, and without connections it has at most two lines for each position that the search needs; or
--- it would have more lines than one may have, at most two for each of these positions, and then
--- more cells are empty than a few. If nobody is told to win, the budget is spent, and the search
--- needs more; or a full board keeps the stones of p, and nobody is joined on it.
+-- by that search it has as many lines as are told, or more if that is the greatest number of 64
+-- bits: more than one may have, at most two for each of these positions, and then more cells are
+-- empty than a few. If nobody is told to win, the budget is spent, and the search needs more; or a
+-- full board keeps the stones of p, and nobody is joined on it.
 abbrev pub IsSolved : Bool → ℕ → Position → Colour → Solved → Type 0
 IsSolved hsearch budget p mover (Won winner cert) = Wins winner p mover
     × Certifies p mover winner cert × (hsearch ≡ false → length cert.lines ≤ 2 * need p mover)
@@ -56,6 +57,7 @@ IsSolved hsearch budget p mover (Unknown spent own) =
     (spent ≡ budget) × (budget < need p mover) × IsOwnReport p mover hsearch own
 IsSolved hsearch budget p mover (TooLong winner lines) = Wins winner p mover
     × (MOST_LINES < lines) × (lines ≤ 2 * need p mover) × (few_cells < empty_count p)
+    × (lines < 2 ^ 64 - 1 → lines ≡ lines_needed winner p mover)
 IsSolved hsearch budget p mover (Open full) = IsOpenBoard p full
 
 -- a player is joined on the game's board, and the text says who

@@ -27,6 +27,6 @@ returns c =
           (solved_by c.args.hsearch c.args.budget c.board-board.result.now
           c.next_to_place-mover.result c.in-Ok.solved
           c.in-Ok.ensures.wins c.in-Ok.ensures.won c.in-Ok.ensures.short c.in-Ok.ensures.unknown
-          c.in-Ok.ensures.too_long c.in-Ok.ensures.open),
+          c.in-Ok.ensures.too_long c.in-Ok.ensures.counted c.in-Ok.ensures.open),
       e,
     )) c.text_of.ensures
