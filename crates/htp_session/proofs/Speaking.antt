@@ -1,25 +1,31 @@
 -- What is said to a line at once, and what is asked for it.
 use Rattle.std.proofs.Common.{◌≡◌, ◌++◌, ◌∙◌, ℕ, Bool, true, false, List, [], Option, Some, None}
-use Rattle.std.proofs.Common.{Result, Ok, Err, refl, ap, sym, subst}
-use Rattle.std.specs.Prelude.{IfOk, OnOk}
+use Rattle.std.proofs.Common.{Result, Ok, Err, refl, ap, sym, subst, append-nil, arith}
+use Rattle.std.specs.Prelude.{IfOk, OnOk, OnErr}
+use Rattle.hex_io.specs.Causes.{CountsFault}
 use Rattle.hex_io.specs.Grew.{Gave, GaveProperPart}
+use Rattle.hex_io.specs.Told.{Same}
+use Rattle.hex_io.proofs.BothLaws.{Both-weaker}
 use Rattle.hex_io.proofs.GaveLaws.{Gave-nothing}
 use Rattle.htp_line.specs.declared.request.Request.{Request}
 use Rattle.htp_line.specs.declared.request.Parsed.TheVariants as parsed
 use Rattle.hex_engine.specs.EngineState.{EngineState}
-use Rattle.hex_engine.specs.Supply.{Supply}
-use Rattle.hex_engine.specs.Requests.{AnsweredQuietly, replied}
+use Rattle.hex_engine.specs.Replies.{NoTurn}
+use Rattle.hex_engine.specs.Supply.{Supply, nothing_left}
+use Rattle.hex_engine.specs.Requests.{AnsweredQuietly, reaction, replied}
+use Rattle.hex_engine.specs.Uses.{Answered}
 use Rattle.hex_engine.specs.declared.answers.Answer.{Answer}
 use Rattle.hex_engine.specs.declared.answers.EngineError.{EngineError}
 use Rattle.hex_engine.specs.declared.answers.EngineError.TheVariants as engine
-use Rattle.hex_devices.specs.Devices.{DevicesState, shelf_and_archive}
+use Rattle.hex_devices.specs.Devices.{CountsStop, DevicesState, shelf_and_archive}
 use Rattle.hex_devices.specs.declared.stops.Stop.{Stop}
-use Rattle.hex_devices.specs.declared.stops.Stop.TheVariants.{WriteFault, Memory}
+use Rattle.hex_devices.specs.declared.stops.Stop.TheVariants.{ReadFault, WriteFault, Memory}
+use Rattle.hex_devices.specs.declared.stops.Stop.TheVariants.{ArchiveFault}
 use Rattle.htp_session.specs.Talk.{TalkState, Going, after_reaction, after_reading, ending_if}
 use Rattle.htp_session.specs.Talk.{is_quit, reply_text}
 use Rattle.htp_session.specs.Usage.{AnswersWith, Wants, UsesUpNothing}
 use Rattle.htp_session.specs.Calls.Answering.{Speaks, SpeaksToRequest, Writes, WritesReply}
-use Rattle.htp_session.specs.Calls.Asking.{Replies, stop_of_engine}
+use Rattle.htp_session.specs.Calls.Asking.{Asks, Replies, stop_in_asking, stop_of_engine}
 use Rattle.htp_session.specs.declared.answering.Said.{Said}
 use Rattle.htp_session.specs.declared.answering.Said.TheVariants.{Whole, Open}
 use Rattle.htp_session.proofs.Advances.{says_nothing_used, nothing_used}
@@ -129,3 +135,74 @@ unreplied_after old mid new before after request held none held_now engine.Archi
       subst (λ l. Gave old.link l held) (sym link) gave,
       subst (λ a. Wants before.options a (shelf_and_archive new) before says) same r,
     )
+
+-- ---- what the engine answered, told of the devices
+
+pub asked : (old new : DevicesState) (before after : EngineState) (request : Request)
+    (result : Result Answer EngineError)
+    → IfOk result (λ a. Answered before old.shelf new.shelf old.turns new.turns request a after)
+    → OnErr result
+    (UsesUpNothing before.options (shelf_and_archive old) (shelf_and_archive new))
+    → (result ≡ Err engine.Archive → reaction before nothing_left request ≡ Err NoTurn)
+    → (result ≡ Err engine.Archive → Same old.shelf new.shelf)
+    → Asks old new before after request result
+asked old new before after request (Ok answer) answered vain wants same = answered
+asked old new before after request (Err engine.Memory) answered vain wants same = vain
+asked old new before after request (Err engine.Archive) answered vain wants same = (
+  record {
+    loading = Both-weaker old.shelf new.shelf _ _
+        (λ o n e. record { tries = []; tried = e ∙ ap (λ l. record o { tries = l }) (sym (append-nil o.tries)); came = tt })
+        (same refl);
+    moving = vain.uses.moving;
+  },
+  wants refl,
+)
+
+count_kept : (a b : ℕ) (t : Stop) (stop : Option Stop) → b ≡ a → (stop ≡ Some t → ⊥)
+    → CountsFault a b (stop ≡ Some t)
+count_kept a b t stop same none =
+    record { later = omega (arith, same); rose = λ e. absurd (none e); kept = λ e. same }
+
+pub asked_counts : (old new : DevicesState) (result : Result Answer EngineError)
+    → new.read_faults ≡ old.read_faults → new.write_faults ≡ old.write_faults
+    → CountsFault old.archive_faults new.archive_faults (result ≡ Err engine.Archive)
+    → new.names ≡ old.names → CountsStop old new (stop_in_asking result)
+asked_counts old new (Ok answer) reads writes archives names = record {
+  reads = count_kept _ _ ReadFault None reads (λ e. cc);
+  writes = count_kept _ _ WriteFault None writes (λ e. cc);
+  archives = record {
+    later = archives.later;
+    rose = λ e. absurd (cc);
+    kept = λ e. archives.kept (λ e. cc);
+  };
+  names = names;
+}
+asked_counts old new (Err engine.Memory) reads writes archives names = record {
+  reads = count_kept _ _ ReadFault (Some Memory) reads (λ e. cc);
+  writes = count_kept _ _ WriteFault (Some Memory) writes (λ e. cc);
+  archives = record {
+    later = archives.later;
+    rose = λ e. absurd (cc);
+    kept = λ e. archives.kept (λ e. cc);
+  };
+  names = names;
+}
+asked_counts old new (Err engine.Archive) reads writes archives names = record {
+  reads = count_kept _ _ ReadFault (Some ArchiveFault) reads (λ e. cc);
+  writes = count_kept _ _ WriteFault (Some ArchiveFault) writes (λ e. cc);
+  archives = record {
+    later = archives.later;
+    rose = λ e. archives.rose refl;
+    kept = λ e. absurd (e refl);
+  };
+  names = names;
+}
+
+-- one that was not answered gave no reply
+pub unanswered : (old new : DevicesState) (before after : EngineState) (request : Request)
+    (out out_now : List ℕ) (error : EngineError)
+    → Asks old new before after request (Err error)
+    → Replies old new before after request out out_now (Err error)
+unanswered old new before after request out out_now engine.Memory a = a
+unanswered old new before after request out out_now engine.Archive a =
+    record { uses = a.0; is = ap (after_reaction before nothing_left request.id) a.1 }

@@ -54,10 +54,10 @@ pub fn respond<L: Link, F: Shelf, A: Archive, R: Threads + Sync, G: Gate + Sync>
             Said::Whole(quit) => Ok(quit),
             Said::Open(request) => respond_to(alloc, engine, devices, &request, out),
         },
-        Err(_) => match give_held(devices, out) {
-            Ok(()) => Err(Stop::Memory),
-            Err(_) => Err(Stop::WriteFault),
-        },
+        Err(_) => {
+            give_held(devices, out)?;
+            Err(Stop::Memory)
+        }
     }
 }
 
@@ -76,10 +76,7 @@ fn say(
     let Some(raw) = raw else {
         return refuse(out, b"", b"line too long");
     };
-    let Ok(parsed) = read_line(alloc, raw) else {
-        return Err(Memory);
-    };
-    match parsed {
+    match read_line(alloc, raw)? {
         Parsed::Blank => Ok(Said::Whole(false)),
         Parsed::Bare(id) => refuse_bare(alloc, id, out),
         Parsed::Request(request) => say_quietly(alloc, engine, request, out),
@@ -137,10 +134,8 @@ fn refuse(out: &mut Vec<u8>, id: &[u8], message: &[u8]) -> Result<Said, Memory>
     ensures whole { IfOk result (λ said. said ≡ Said.Whole false) }
     ensures err { OnErr result (out.new.items ≡ out.old.items) }
 {
-    match push_failure(out, id, message) {
-        Err(_) => Err(Memory),
-        Ok(()) => Ok(Said::Whole(false)),
-    }
+    push_failure(out, id, message)?;
+    Ok(Said::Whole(false))
 }
 
 /// Refuses an id that stands alone.
@@ -150,8 +145,6 @@ fn refuse_bare(alloc: Global, id: u32, out: &mut Vec<u8>) -> Result<Said, Memory
     ensures whole { IfOk result (λ said. said ≡ Said.Whole false) }
     ensures err { OnErr result (out.new.items ≡ out.old.items) }
 {
-    match id_text(alloc, Some(id)) {
-        Err(_) => Err(Memory),
-        Ok(id) => refuse(out, &id, Fail::Syntax.message().as_bytes()),
-    }
+    let id = id_text(alloc, Some(id))?;
+    refuse(out, &id, Fail::Syntax.message().as_bytes())
 }

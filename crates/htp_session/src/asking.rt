@@ -39,12 +39,10 @@ pub fn respond_to<L: Link, F: Shelf, A: Archive, R: Threads + Sync, G: Gate + Sy
         request.now out.old.items out.new.items result }
     ensures counts { CountsFaults devices.old devices.new result }
 {
-    match give_held(devices, out) {
-        Err(_) => Err(Stop::WriteFault),
-        Ok(()) => match reply(alloc, engine, devices, request, out) {
-            Err(error) => Err(stop_for(error)),
-            Ok(quit) => Ok(quit),
-        },
+    give_held(devices, out)?;
+    match reply(alloc, engine, devices, request, out) {
+        Err(error) => Err(stop_for(error)),
+        Ok(quit) => Ok(quit),
     }
 }
 
@@ -63,20 +61,10 @@ fn reply<L: Link, F: Shelf, A: Archive, R: Threads + Sync, G: Gate + Sync>(
     ensures link { devices.new.link ≡ devices.old.link }
     ensures counts { CountsStop devices.old devices.new (stop_in_asking result) }
 {
-    let Ok(id) = id_text(alloc, request.id) else {
-        return Err(EngineError::Memory);
-    };
-    let Ok(()) = out.reserve(id.len() + BRIEF) else {
-        return Err(EngineError::Memory);
-    };
-    let answer = match ask(devices, engine, request) {
-        Err(error) => return Err(error),
-        Ok(answer) => answer,
-    };
-    match push_answer(out, &id, &answer) {
-        Err(_) => Err(EngineError::Memory),
-        Ok(quit) => Ok(quit),
-    }
+    let id = id_text(alloc, request.id)?;
+    out.reserve(id.len() + BRIEF)?;
+    let answer = ask(devices, engine, request)?;
+    Ok(push_answer(out, &id, &answer)?)
 }
 
 /// Asks the engine for its answer to a request.
@@ -89,15 +77,11 @@ fn ask<L: Link, F: Shelf, A: Archive, R: Threads + Sync, G: Gate + Sync>(
     ensures link { devices.new.link ≡ devices.old.link }
     ensures counts { CountsStop devices.old devices.new (stop_in_asking result) }
 {
-    match engine.line(
+    engine.line(
         devices.rt,
         request,
         &mut *devices.shelf,
         &mut *devices.archive,
         devices.gate,
-    ) {
-        Err(EngineError::Memory) => Err(EngineError::Memory),
-        Err(EngineError::Archive) => Err(EngineError::Archive),
-        Ok(answer) => Ok(answer),
-    }
+    )
 }

@@ -37,20 +37,15 @@ pub fn converse<L: Link, F: Shelf, A: Archive, R: Threads + Sync, G: Gate + Sync
     let mut total = 0;
     'pieces: loop {
         let room = buffer.len().min((limit - total).max(1));
-        let count = match devices.read(&mut buffer, room) {
-            Err(_) => return Err(Stop::ReadFault),
-            Ok(count) => count,
-        };
+        let count = devices.read(&mut buffer, room)?;
         if count == 0 {
             return session.finish(alloc, devices);
         }
         if total == limit {
             return Err(Stop::TooLong);
         }
-        match session.feed(alloc, devices, &buffer[..count]) {
-            Err(stop) => return Err(stop),
-            Ok(true) => return Ok(()),
-            Ok(false) => {}
+        if session.feed(alloc, devices, &buffer[..count])? {
+            return Ok(());
         }
         total += count;
     }

@@ -27,13 +27,9 @@ pub fn give_held<L: Link, F: Shelf, A: Archive, R: Threads + Sync, G: Gate + Syn
     ensures shelf_and_archive { shelf_and_archive devices.new ≡ shelf_and_archive devices.old }
     ensures counts { CountsOnly Stop.WriteFault devices.old devices.new result }
 {
-    match devices.give(&*held) {
-        Err(fault) => Err(fault),
-        Ok(()) => {
-            held.clear();
-            Ok(())
-        }
-    }
+    devices.give(&*held)?;
+    held.clear();
+    Ok(())
 }
 
 /// Gives all that is held, if that is much. At most `MOST_HELD` bytes are held then.

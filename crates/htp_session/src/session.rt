@@ -91,13 +91,11 @@ impl Session {
                 quit: false,
             });
         }
-        match self.answer(alloc, devices) {
-            Err(stop) => Err(stop),
-            Ok(quit) => Ok(Moved {
-                used: fed.used,
-                quit,
-            }),
-        }
+        let quit = self.answer(alloc, devices)?;
+        Ok(Moved {
+            used: fed.used,
+            quit,
+        })
     }
 
     /// Takes a piece, and answers each line that ends in it. The last answers are held. It says
@@ -114,14 +112,8 @@ impl Session {
         self.out.clear();
         let mut at = 0;
         'lines: while at < piece.len() {
-            match relieve(devices, &mut self.out) {
-                Err(_) => return Err(Stop::WriteFault),
-                Ok(()) => {}
-            }
-            let moved = match self.advance(alloc, devices, &piece[at..]) {
-                Err(stop) => return Err(stop),
-                Ok(moved) => moved,
-            };
+            relieve(devices, &mut self.out)?;
+            let moved = self.advance(alloc, devices, &piece[at..])?;
             if moved.quit {
                 return Ok(true);
             }
@@ -143,10 +135,8 @@ impl Session {
         if !self.splitter.finish() {
             return Ok(());
         }
-        match self.answer(alloc, devices) {
-            Err(stop) => Err(stop),
-            Ok(_) => Ok(()),
-        }
+        self.answer(alloc, devices)?;
+        Ok(())
     }
 }
 
@@ -165,13 +155,9 @@ impl Session {
         ensures feeds { Feeds devices.old devices.new self.old self.new piece.now result }
         ensures counts { CountsFaults devices.old devices.new result }
     {
-        match self.take(alloc, devices, piece) {
-            Err(stop) => Err(stop),
-            Ok(quit) => match give_held(devices, &mut self.out) {
-                Err(_) => Err(Stop::WriteFault),
-                Ok(()) => Ok(quit),
-            },
-        }
+        let quit = self.take(alloc, devices, piece)?;
+        give_held(devices, &mut self.out)?;
+        Ok(quit)
     }
 
     /// Answers the last line, if no line feed ends it.
@@ -183,12 +169,7 @@ impl Session {
         ensures finishes { Finishes devices.old devices.new self.old result }
         ensures counts { CountsFaults devices.old devices.new result }
     {
-        match self.last(alloc, devices) {
-            Err(stop) => Err(stop),
-            Ok(()) => match give_held(devices, &mut self.out) {
-                Err(_) => Err(Stop::WriteFault),
-                Ok(()) => Ok(()),
-            },
-        }
+        self.last(alloc, devices)?;
+        Ok(give_held(devices, &mut self.out)?)
     }
 }

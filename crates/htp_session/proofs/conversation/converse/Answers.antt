@@ -1,5 +1,6 @@
 -- What stands at each end, and after one piece more.
 use Rattle.std.proofs.Common.{◌≡◌, ◌≤◌, ◌+◌, [], ◌++◌, length, take, refl, arith, ◌∙◌}
+use Rattle.std.proofs.lemmas.Result.{err_from_is_err_and}
 use Rattle.hex_engine.specs.EngineState.{opening}
 use Rattle.hex_devices.specs.Devices.{shelf_and_archive}
 use Rattle.htp_session.proofs.Pieces.{length-front}
@@ -20,59 +21,65 @@ pub returns-in_default-clause-converses : goal.returns-in_default-clause-convers
 returns-in_default-clause-converses g c
     = conversed_nothing c.args.options.now c.args.size c.args.limit _ _
 
-pub returns-in-Err-clause-converses : goal.returns-in-Err-clause-converses
-returns-in-Err-clause-converses g c =
-    by_read c.args.options.now c.args.size c.args.limit c.args.devices.now c.pieces.devices c.read.new.self c.pieces.session c.pieces.total c.pieces.invariant.in_limit c.pieces.invariant.goes c.in-Err.ensures.shelf_and_archive c.in-Err.ensures.reads
+pub returns-in_err-count-clause-converses : goal.returns-in_err-count-clause-converses
+returns-in_err-count-clause-converses g c =
+    let p = err_from_is_err_and c.from_residual.result c.from_residual.ensures.1 in
+    rw (p.1, p.2)
+    (by_read c.args.options.now c.args.size c.args.limit c.args.devices.now c.pieces.devices c.read.new.self c.pieces.session c.pieces.total c.pieces.invariant.in_limit c.pieces.invariant.goes c.in_err-count.ensures.shelf_and_archive c.in_err-count.ensures.reads)
 
-pub returns-in-Err-clause-counts : goal.returns-in-Err-clause-counts
-returns-in-Err-clause-counts g c
-    = counts_then c.args.devices.now c.pieces.devices _ _ c.pieces.invariant.counts c.in-Err.ensures.counts
+pub returns-in_err-count-clause-counts : goal.returns-in_err-count-clause-counts
+returns-in_err-count-clause-counts g c =
+    let p = err_from_is_err_and c.from_residual.result c.from_residual.ensures.1 in
+    rw (p.1, p.2)
+    (counts_then c.args.devices.now c.pieces.devices _ _ c.pieces.invariant.counts c.in_err-count.ensures.counts)
 
 pub returns-then-count-eq0-clause-converses : goal.returns-then-count-eq0-clause-converses
 returns-then-count-eq0-clause-converses g c =
-    by_last c.args.options.now c.args.size c.args.limit c.args.devices.now c.pieces.devices c.read.new.self c.finish.new.devices c.pieces.session c.read.new.buffer c.pieces.total c.in-Ok-read.count c.finish.result c.pieces.invariant.in_limit c.if-count-eq0.true c.pieces.invariant.goes c.in-Ok-read.ensures.shelf_and_archive c.in-Ok-read.ensures.reads c.finish.ensures.finishes
+    by_last c.args.options.now c.args.size c.args.limit c.args.devices.now c.pieces.devices c.read.new.self c.finish.new.devices c.pieces.session c.read.new.buffer c.pieces.total c.in_ok-count.count c.finish.result c.pieces.invariant.in_limit c.if-count-eq0.true c.pieces.invariant.goes c.in_ok-count.ensures.shelf_and_archive c.in_ok-count.ensures.reads c.finish.ensures.finishes
 
 pub returns-then-total-limit-clause-converses : goal.returns-then-total-limit-clause-converses
 returns-then-total-limit-clause-converses g c =
-    let fits : c.in-Ok-read.count ≤ length c.read.new.buffer
-    = omega (arith, c.in-Ok-read.ensures.bound) in
-    let p = took_piece c.args.options.now c.args.size c.args.devices.now c.pieces.devices c.read.new.self c.pieces.session c.read.new.buffer c.pieces.total c.in-Ok-read.count c.pieces.invariant.goes fits c.in-Ok-read.ensures.shelf_and_archive c.in-Ok-read.ensures.reads in
-    let one : c.in-Ok-read.count ≡ 1 = omega (arith, c.in-Ok-read.ensures.bound) in
-    let many : c.pieces.total + c.in-Ok-read.count ≡ c.args.limit + 1 = omega (arith, one) in
-    by_overlong c.args.options.now c.args.size c.args.limit c.args.devices.now c.read.new.self c.pieces.session _ _ (length-front c.read.new.buffer c.in-Ok-read.count fits ∙ one) many p
+    let fits : c.in_ok-count.count ≤ length c.read.new.buffer
+    = omega (arith, c.in_ok-count.ensures.bound) in
+    let p = took_piece c.args.options.now c.args.size c.args.devices.now c.pieces.devices c.read.new.self c.pieces.session c.read.new.buffer c.pieces.total c.in_ok-count.count c.pieces.invariant.goes fits c.in_ok-count.ensures.shelf_and_archive c.in_ok-count.ensures.reads in
+    let one : c.in_ok-count.count ≡ 1 = omega (arith, c.in_ok-count.ensures.bound) in
+    let many : c.pieces.total + c.in_ok-count.count ≡ c.args.limit + 1 = omega (arith, one) in
+    by_overlong c.args.options.now c.args.size c.args.limit c.args.devices.now c.read.new.self c.pieces.session _ _ (length-front c.read.new.buffer c.in_ok-count.count fits ∙ one) many p
 
-pub returns-in-Err-feed-clause-converses : goal.returns-in-Err-feed-clause-converses
-returns-in-Err-feed-clause-converses g c =
-    let fits : c.in-Ok-read.count ≤ length c.read.new.buffer
-    = omega (arith, c.in-Ok-read.ensures.bound) in
-    let p = took_piece c.args.options.now c.args.size c.args.devices.now c.pieces.devices c.read.new.self c.pieces.session c.read.new.buffer c.pieces.total c.in-Ok-read.count c.pieces.invariant.goes fits c.in-Ok-read.ensures.shelf_and_archive c.in-Ok-read.ensures.reads in
-    let few : c.pieces.total + c.in-Ok-read.count ≤ c.args.limit
-    = omega (arith, c.in-Ok-read.ensures.bound) in
-    by_feed c.args.options.now c.args.size c.args.limit c.args.devices.now c.read.new.self c.feed.new.devices c.pieces.session c.feed.new.self _ _ c.in-Err-feed.stop few p c.in-Err-feed.ensures.feeds
+pub returns-in_err-feed-clause-converses : goal.returns-in_err-feed-clause-converses
+returns-in_err-feed-clause-converses g c =
+    let fits : c.in_ok-count.count ≤ length c.read.new.buffer
+    = omega (arith, c.in_ok-count.ensures.bound) in
+    let p = took_piece c.args.options.now c.args.size c.args.devices.now c.pieces.devices c.read.new.self c.pieces.session c.read.new.buffer c.pieces.total c.in_ok-count.count c.pieces.invariant.goes fits c.in_ok-count.ensures.shelf_and_archive c.in_ok-count.ensures.reads in
+    let few : c.pieces.total + c.in_ok-count.count ≤ c.args.limit
+    = omega (arith, c.in_ok-count.ensures.bound) in
+    let r = err_from_is_err_and c.from_residual-in_err-feed.result c.from_residual-in_err-feed.ensures.1 in
+    rw (r.1, r.2)
+    (by_feed c.args.options.now c.args.size c.args.limit c.args.devices.now c.read.new.self c.feed.new.devices c.pieces.session c.feed.new.self _ _ c.in_err-feed.field-0.0 few p c.in_err-feed.ensures.feeds)
 
-pub returns-in-Ok-true-clause-converses : goal.returns-in-Ok-true-clause-converses
-returns-in-Ok-true-clause-converses g c =
-    let fits : c.in-Ok-read.count ≤ length c.read.new.buffer
-    = omega (arith, c.in-Ok-read.ensures.bound) in
-    let p = took_piece c.args.options.now c.args.size c.args.devices.now c.pieces.devices c.read.new.self c.pieces.session c.read.new.buffer c.pieces.total c.in-Ok-read.count c.pieces.invariant.goes fits c.in-Ok-read.ensures.shelf_and_archive c.in-Ok-read.ensures.reads in
-    let few : c.pieces.total + c.in-Ok-read.count ≤ c.args.limit
-    = omega (arith, c.in-Ok-read.ensures.bound) in
-    by_quit c.args.options.now c.args.size c.args.limit c.args.devices.now c.read.new.self c.feed.new.devices c.pieces.session c.feed.new.self _ _ few p (rw c.in-Ok-true.field-0-test at c.in-Ok-true.ensures.feeds)
+pub returns-then-branch-clause-converses : goal.returns-then-branch-clause-converses
+returns-then-branch-clause-converses g c =
+    let fits : c.in_ok-count.count ≤ length c.read.new.buffer
+    = omega (arith, c.in_ok-count.ensures.bound) in
+    let p = took_piece c.args.options.now c.args.size c.args.devices.now c.pieces.devices c.read.new.self c.pieces.session c.read.new.buffer c.pieces.total c.in_ok-count.count c.pieces.invariant.goes fits c.in_ok-count.ensures.shelf_and_archive c.in_ok-count.ensures.reads in
+    let few : c.pieces.total + c.in_ok-count.count ≤ c.args.limit
+    = omega (arith, c.in_ok-count.ensures.bound) in
+    by_quit c.args.options.now c.args.size c.args.limit c.args.devices.now c.read.new.self c.feed.new.devices c.pieces.session c.feed.new.self _ _ few p (rw c.if-branch.true at c.in_ok-feed.ensures.feeds)
 
 pub pieces-preserved : goal.pieces-preserved
 pieces-preserved g c =
-    let fits : c.in-Ok-read.count ≤ length c.read.new.buffer
-    = omega (arith, c.in-Ok-read.ensures.bound) in
-    let p = took_piece c.args.options.now c.args.size c.args.devices.now c.pieces.devices c.read.new.self c.pieces.session c.read.new.buffer c.pieces.total c.in-Ok-read.count c.pieces.invariant.goes fits c.in-Ok-read.ensures.shelf_and_archive c.in-Ok-read.ensures.reads in
+    let fits : c.in_ok-count.count ≤ length c.read.new.buffer
+    = omega (arith, c.in_ok-count.ensures.bound) in
+    let p = took_piece c.args.options.now c.args.size c.args.devices.now c.pieces.devices c.read.new.self c.pieces.session c.read.new.buffer c.pieces.total c.in_ok-count.count c.pieces.invariant.goes fits c.in_ok-count.ensures.shelf_and_archive c.in_ok-count.ensures.reads in
     record {
-      in_limit = omega (arith, c.in-Ok-read.ensures.bound);
+      in_limit = omega (arith, c.in_ok-count.ensures.bound);
       counts = counts_then c.args.devices.now c.pieces.devices _ _ c.pieces.invariant.counts
-          (counts_then c.pieces.devices c.read.new.self _ _ c.in-Ok-read.ensures.counts c.in-Ok-false.ensures.counts);
+          (counts_then c.pieces.devices c.read.new.self _ _ c.in_ok-count.ensures.counts c.in_ok-feed.ensures.counts);
       goes = (
-        p.seen ++ take c.in-Ok-read.count c.read.new.buffer,
+        p.seen ++ take c.in_ok-count.count c.read.new.buffer,
         p.many,
         goes_on_feeding (opening c.args.options.now c.args.size)
             (shelf_and_archive c.args.devices.now) (shelf_and_archive c.read.new.self)
-            (shelf_and_archive c.feed.new.devices) c.args.devices.now.link c.read.new.self.link c.feed.new.devices.link c.pieces.session.engine c.feed.new.self.engine c.pieces.session.splitter c.feed.new.self.splitter p.seen (take c.in-Ok-read.count c.read.new.buffer) p.took (rw c.in-Ok-false.field-0-test at c.in-Ok-false.ensures.feeds),
+            (shelf_and_archive c.feed.new.devices) c.args.devices.now.link c.read.new.self.link c.feed.new.devices.link c.pieces.session.engine c.feed.new.self.engine c.pieces.session.splitter c.feed.new.self.splitter p.seen (take c.in_ok-count.count c.read.new.buffer) p.took (rw c.if-branch.false at c.in_ok-feed.ensures.feeds),
       );
     }

@@ -1,5 +1,6 @@
 -- The answer to the last line.
 use Rattle.std.proofs.Common.{◌≡◌, true, false, [], rules, sym}
+use Rattle.std.proofs.lemmas.Result.{err_from_is_err_and}
 use Rattle.hex_io.proofs.GaveLaws.{Gave-nothing}
 use Rattle.htp_session.proofs.Advances.{no_last}
 use Rattle.htp_session.proofs.Calling.{stopped_end, last_answered}
@@ -10,12 +11,14 @@ returns-then-not-finish-clause-answers g c =
     let ended : c.finish.new.self.ended ≡ false = search rules in
     ([], ([], sym c.clear.ensures.items, Gave-nothing _), no_last _ _ _ c.finish.new.self c.finish.ensures.stream ended)
 
-pub returns-in-Err-clause-answers : goal.returns-in-Err-clause-answers
-returns-in-Err-clause-answers g c =
+pub returns-in_err-answer-clause-answers : goal.returns-in_err-answer-clause-answers
+returns-in_err-answer-clause-answers g c =
+    let p = err_from_is_err_and c.from_residual.result c.from_residual.ensures.1 in
     let ended : c.finish.new.self.ended ≡ true = search rules in
-    stopped_end c.args.devices.now c.answer.new.devices c.args.self.now c.answer.new.self c.answer.new.self.engine c.finish.new.self c.clear.new.self.items c.answer.new.self.out.items c.in-Err.stop c.clear.ensures.items c.finish.ensures.stream ended c.in-Err.ensures.writes
+    rw (p.1, p.2)
+    (stopped_end c.args.devices.now c.answer.new.devices c.args.self.now c.answer.new.self c.answer.new.self.engine c.finish.new.self c.clear.new.self.items c.answer.new.self.out.items c.in_err-answer.field-0.0 c.clear.ensures.items c.finish.ensures.stream ended c.in_err-answer.ensures.writes)
 
-pub returns-in-Ok-clause-answers : goal.returns-in-Ok-clause-answers
-returns-in-Ok-clause-answers g c =
+pub returns-clause-answers : goal.returns-clause-answers
+returns-clause-answers g c =
     let ended : c.finish.new.self.ended ≡ true = search rules in
-    last_answered c.args.devices.now c.answer.new.devices c.args.self.now c.answer.new.self c.finish.new.self c.clear.new.self.items c.in-Ok.field-0 c.clear.ensures.items c.finish.ensures.stream ended c.in-Ok.ensures.writes
+    last_answered c.args.devices.now c.answer.new.devices c.args.self.now c.answer.new.self c.finish.new.self c.clear.new.self.items c.in_ok-answer.field-0 c.clear.ensures.items c.finish.ensures.stream ended c.in_ok-answer.ensures.writes
