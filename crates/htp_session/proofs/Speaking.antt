@@ -1,5 +1,5 @@
 -- What is said to a line at once, and what is asked for it.
-use Rattle.std.proofs.Common.{◌≡◌, ◌++◌, ◌∙◌, ℕ, Bool, true, false, List, [], Option, Some, None}
+use Rattle.std.proofs.Common.{◌≡◌, ◌++◌, ◌∙◌, ℕ, Bool, false, List, [], Option, Some, None}
 use Rattle.std.proofs.Common.{Result, Ok, Err, refl, ap, sym, subst, append-nil, arith}
 use Rattle.std.specs.Prelude.{IfOk, OnOk, OnErr}
 use Rattle.hex_io.specs.Causes.{CountsFault}
@@ -21,7 +21,7 @@ use Rattle.hex_devices.specs.Devices.{CountsStop, DevicesState, shelf_and_archiv
 use Rattle.hex_devices.specs.declared.stops.Stop.{Stop}
 use Rattle.hex_devices.specs.declared.stops.Stop.TheVariants.{ReadFault, WriteFault, Memory}
 use Rattle.hex_devices.specs.declared.stops.Stop.TheVariants.{ArchiveFault}
-use Rattle.htp_session.specs.Talk.{TalkState, Going, after_reaction, after_reading, ending_if}
+use Rattle.htp_session.specs.Talk.{TalkState, Going, after_reaction, after_reading}
 use Rattle.htp_session.specs.Talk.{is_quit, reply_text}
 use Rattle.htp_session.specs.Usage.{AnswersWith, Wants, UsesUpNothing}
 use Rattle.htp_session.specs.Calls.Answering.{Speaks, SpeaksToRequest, Writes, WritesReply}
