@@ -12,6 +12,15 @@ pub struct ReadFault;
 #[derive(Clone, Copy, Debug, PartialEq, Eq)]
 pub struct WriteFault;
 
+/// A turn was not handed over with its text.
+#[derive(Clone, Copy, Debug, PartialEq, Eq)]
+pub enum HandingFault {
+    /// The archive failed.
+    Archive,
+    /// The archive took the turn, and a write of its text failed.
+    Write,
+}
+
 impl From<ReadFault> for Stop {
     ghost use Rattle.hex_devices.specs.declared.stops.Stop.{Stop};
 
@@ -29,5 +38,28 @@ impl From<WriteFault> for Stop {
 
     fn from(_fault: WriteFault) -> Stop {
         Stop::WriteFault
+    }
+}
+
+impl From<WriteFault> for HandingFault {
+    ghost use Rattle.hex_devices.specs.declared.faults.HandingFault.{HandingFault};
+
+    ghost from_gives = { λ _ fault. fault ≡ HandingFault.Write };
+
+    fn from(_fault: WriteFault) -> HandingFault {
+        HandingFault::Write
+    }
+}
+
+impl From<HandingFault> for Stop {
+    ghost use Rattle.hex_devices.specs.Handing.{stop_of_handing};
+
+    ghost from_gives = { λ fault stop. stop ≡ stop_of_handing fault };
+
+    fn from(fault: HandingFault) -> Stop {
+        match fault {
+            HandingFault::Archive => Stop::ArchiveFault,
+            HandingFault::Write => Stop::WriteFault,
+        }
     }
 }

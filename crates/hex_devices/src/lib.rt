@@ -11,17 +11,16 @@
 //! ```text
 //! let input = take_all(alloc, &mut link, limit)?;
 //! let answer = answer_input(alloc, &mut link, &reader, limit);
-//! let outcome = hand_over(&mut link, &mut archive, turn, &text);
-//! let status = End::of(outcome).status();
+//! hand_over(&mut link, &mut archive, turn, &text)?;
+//! let status = End::of_answer(answer).status();
 //! ```
 //!
 //! **What is proved.** [`take_all`] takes all that is to come, up to a limit, in the words of
 //! specs/Inputs.antt. [`answer_input`] gives the text by which an [`InputReader`] answers it. A
 //! turn that is handed over was taken before the first byte of its text was given ([`hand_over`],
 //! specs/Handing.antt). At a write fault a prefix of its text was given that is not all of it, and
-//! with every other stop nothing (specs/Giving.antt). A count of faults rose with its own [`Stop`]
-//! and is as before with every other outcome (specs/Devices.antt). No two ends have one status
-//! (specs/Statuses.antt).
+//! at an archive fault nothing. A count of faults rose with its own fault and is as before with
+//! every other outcome (specs/Devices.antt). No two ends have one status (specs/Statuses.antt).
 //!
 //! **What is only tested, or not said.** That memory suffices. That after a fault nothing is read
 //! or written.
@@ -37,12 +36,13 @@
 //!   engine.
 //! - Both programs end by [`End`], so one place names each fault, status and line. A run of
 //!   hexmatch has four of these ends, and says so (`IsMatchStatus`).
-//! - A text is given by one relation, `GivesText`: all of it, at a write fault a prefix that is not
-//!   all of it, and nothing at any other stop. A whole input's answer has its own, `AnswersInput`,
-//!   since the same link first gave the input.
+//! - How a text was given is told by the relations of hex_io: all of it (`Gave`), or at a write
+//!   fault a prefix that is not all of it (`GaveProperPart`). `GivesText` chooses between them by
+//!   the stop. A whole input's answer has its own, `AnswersInput`, since the same link first gave
+//!   the input.
 //! - What the devices do by themselves refuses only what can happen then: a read by [`ReadFault`],
-//!   a write by [`WriteFault`]. Each becomes a [`Stop`] by `?`, and no contract of theirs has a
-//!   case that can't come.
+//!   a write by [`WriteFault`], a turn that is handed over by [`HandingFault`]. Each becomes a
+//!   [`Stop`] by `?`, and no contract of theirs has a case that can't come.
 //! - A mode that takes a whole input is a reader with a ghost relation between the bytes, the text
 //!   and whether they are accepted; so how input is taken, the limit, the faults and the status are
 //!   proved once. The reader says how many bytes it answers, since an audit counts trees in 32
@@ -61,7 +61,7 @@ mod stops;
 pub use answers::{InputAnswer, InputReader, answer_input};
 pub use devices::Devices;
 pub use ends::End;
-pub use faults::{ReadFault, WriteFault};
+pub use faults::{HandingFault, ReadFault, WriteFault};
 pub use handing::hand_over;
 pub use inputs::{PIECE, take_all};
 pub use stops::Stop;

@@ -3,29 +3,33 @@ use Rattle.std.proofs.Common.{◌≡◌, ℕ, List, Option, Ok, Err, Result, ref
 use Rattle.hex_io.specs.Told.{Told}
 use Rattle.hex_plan.specs.Turns.{TurnData}
 use Rattle.hex_devices.specs.Devices.{LinkAndArchive, Outcome}
-use Rattle.hex_devices.specs.Handing.{HandsOver}
+use Rattle.hex_devices.specs.Handing.{HandsOver, stop_of_handing}
+use Rattle.hex_devices.specs.declared.faults.HandingFault.{HandingFault}
+use Rattle.hex_devices.specs.declared.faults.HandingFault.TheVariants.{Archive, Write}
 use Rattle.hex_devices.specs.declared.stops.Stop.{Stop}
 use Rattle.hex_devices.specs.declared.stops.Stop.TheVariants.{ReadFault, WriteFault, Memory}
 use Rattle.hex_devices.specs.declared.stops.Stop.TheVariants.{TooLong, ArchiveFault}
 use Rattle.turn_modes.specs.HandingIn.{HandsIn}
 
-pub handed : (Says : TurnData → List ℕ → Type 0) (old new : LinkAndArchive) (turn : TurnData)
-    (text : List ℕ) (result : Result (Unit {0}) Stop) → Says turn text
-    → HandsOver old new turn text result → HandsIn Says old new result
+-- how a mode ends that handed over its turn so
+abbrev pub outcome_of : Result (Unit {0}) HandingFault → Outcome
+outcome_of (Ok done) = Ok done
+outcome_of (Err fault) = Err (stop_of_handing fault)
+
+handed : (Says : TurnData → List ℕ → Type 0) (old new : LinkAndArchive) (turn : TurnData)
+    (text : List ℕ) (result : Result (Unit {0}) HandingFault) → Says turn text
+    → HandsOver old new turn text result → HandsIn Says old new (outcome_of result)
 handed Says old new turn text (Ok done) a h = (turn, text, a, h.0, h.1)
-handed Says old new turn text (Err ReadFault) a h = h
-handed Says old new turn text (Err WriteFault) a h = (turn, text, a, h.0, h.1)
-handed Says old new turn text (Err Memory) a h = absurd h
-handed Says old new turn text (Err TooLong) a h = h
-handed Says old new turn text (Err ArchiveFault) a h = h
+handed Says old new turn text (Err Archive) a h = h
+handed Says old new turn text (Err Write) a h = (turn, text, a, h.0, h.1)
 
 -- the same, if the link and the archive tell what devices tell
 pub handed_as : (Says : TurnData → List ℕ → Type 0) (x y link link_now : Option Told)
     (a b turns turns_now : Option (List TurnData)) (turn : TurnData) (text : List ℕ)
-    (result : Result (Unit {0}) Stop)
+    (result : Result (Unit {0}) HandingFault)
     → x ≡ link → a ≡ turns → y ≡ link_now → b ≡ turns_now → Says turn text
     → HandsOver (x, a) (y, b) turn text result
-    → HandsIn Says (link, turns) (link_now, turns_now) result
+    → HandsIn Says (link, turns) (link_now, turns_now) (outcome_of result)
 handed_as Says x y link link_now a b turns turns_now turn text result p q r s says h
     = rw (← p, ← q, ← r, ← s) (handed Says (x, a) (y, b) turn text result says h)
 

@@ -58,7 +58,8 @@ pub fn hand_in<L: Link, F: Shelf, A: Archive, R: Threads + Sync, G: Gate + Sync>
         &mut *devices.archive,
         told.turn,
         &told.text,
-    )
+    )?;
+    Ok(())
 }
 
 // The turn of the mode, and its text.
