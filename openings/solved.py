@@ -11,7 +11,7 @@ accepted by `hexd check` and by tools/second_checker.py. The seconds are process
 was busy with other work, which makes a run up to a third longer. MB is the most memory that was seen \
 by a look twenty times a second; a run that was too short for one has none. No test compares seconds or MB. The positions \
 are those that the search entered, which is the least budget with which `hexd solve` wins. The answer doesn't tell it, \
-so `openings/positions.py` looks for it, which takes ten times as long as the rest.
+so `openings/positions.py` looks for it, which takes ten times as long as the rest: a row without it was not tried.
 
 openings/README.md says how to make them anew.
 
