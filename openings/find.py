@@ -62,8 +62,11 @@ def solved(opening, budget):
     with tempfile.TemporaryFile() as given, tempfile.TemporaryFile() as said:
         given.write(f"(;GM[11]SZ[{opening.size}];B[{vertex(*opening)}])".encode())
         given.seek(0)
+        # Ctrl-C waits while it starts: before that is over nobody could end it.
+        signal.pthread_sigmask(signal.SIG_BLOCK, {signal.SIGINT})
         process = subprocess.Popen([PROGRAM, "solve", "--budget", str(budget)], stdin=given, stdout=said)
         try:
+            signal.pthread_sigmask(signal.SIG_UNBLOCK, {signal.SIGINT})
             usage, megabytes = ended(process)
         except KeyboardInterrupt:
             process.kill()
