@@ -30,7 +30,7 @@ use Rattle.std.proofs.lemmas.Bool.{eqb-true, eq-eqb, cases_Bool, or_cases, false
 use Rattle.std.proofs.lemmas.Bool.{or_left}
 use Rattle.tree_words.proofs.Walks.Climbs.{or_false}
 use Rattle.tree_words.proofs.Walks.Countings.{cond-and}
-use Rattle.tree_words.proofs.Walks.Tallies.{other_again}
+use Rattle.hex_cells.proofs.ColourLaws.{other_back}
 
 -- the seen words of a block lie in it
 seen-covers : (b : LinkedBlock) (j : ℕ) → j < length b.cells
@@ -128,7 +128,7 @@ new-none s o b bs x i y f h l = adds-none s o (x + i) bs y
 mover-new : (s : Setting) (b : LinkedBlock) (bs : List LinkedBlock) (x : ℕ) → has_node b x ≡ true
     → (node_state s bs b.parent).player ≡ mover_of s (b ∷ bs) x
 mover-new s b bs x h
-    = sym (ap (λ (t : Bool). mover_at (cond t (state_after (node_state s bs b.parent) (cell_at b (place b x))) (node_state s bs x))) h ∙ other_again (node_state s bs b.parent).player)
+    = sym (ap (λ (t : Bool). mover_at (cond t (state_after (node_state s bs b.parent) (cell_at b (place b x))) (node_state s bs x))) h ∙ other_back (node_state s bs b.parent).player)
 
 module _ (s : Setting) (o : Ending) (x : ℕ) where
   -- the tally of a node on the path gets one visit, and one win if its mover won; no other tally

@@ -1,4 +1,4 @@
--- When two players are one.
+-- When two players are one, and the other of the other.
 use Rattle.std.proofs.Common.{◌≡◌, not, true, refl}
 use Rattle.std.proofs.lemmas.Bool.{false≢true}
 use Rattle.hex_cells.specs.Colours.{is_same, other_of}
@@ -12,6 +12,10 @@ same_colour Black Black e = refl
 same_colour Black White e = absurd (false≢true e)
 same_colour White Black e = absurd (false≢true e)
 same_colour White White e = refl
+
+pub other_back : (a : Colour) → other_of (other_of a) ≡ a
+other_back Black = refl
+other_back White = refl
 
 pub is_same-itself : (a : Colour) → is_same a a ≡ true
 is_same-itself Black = refl

@@ -22,7 +22,7 @@ use Rattle.hex_solve.specs.declared.plain_search.Stop.TheVariants.{Spent, Open, 
 use Rattle.win_cert.specs.Showing.{Keeps}
 use Rattle.hex_solve.specs.declared.ledgers.Mark.{Mark}
 use Rattle.hex_solve.proofs.LedgerLaws.{counts_on, grows_on}
-use Rattle.hex_solve.proofs.FirstWins.{other_back}
+use Rattle.hex_cells.proofs.ColourLaws.{other_back}
 use Rattle.hex_solve.proofs.Growing.{grows_wider}
 use Rattle.hex_solve.proofs.NextNeed.{lines_after}
 use Rattle.hex_solve.proofs.Trying.{IsTrying, trying_on}

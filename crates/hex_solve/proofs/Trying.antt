@@ -25,7 +25,7 @@ use Rattle.hex_solve.specs.Ledgers.{AreAnswers, CountsBy, GrowsBy, IsAmong, Ledg
 use Rattle.hex_solve.specs.Ledgers.{count_of}
 use Rattle.hex_solve.specs.PlainSearch.{IsPairOfLedgers, tree_lines}
 use Rattle.win_cert.specs.Showing.{Keeps}
-use Rattle.hex_solve.proofs.FirstWins.{other_back}
+use Rattle.hex_cells.proofs.ColourLaws.{other_back}
 use Rattle.hex_solve.proofs.LedgerLaws.{counts_on, grows_none, grows_on}
 use Rattle.hex_solve.proofs.NextNeed.{for_other, lines_after, lines_lost, need_after, need_next}
 use Rattle.hex_solve.proofs.NextNeed.{wins_by}

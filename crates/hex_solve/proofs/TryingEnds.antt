@@ -14,7 +14,7 @@ use Rattle.conn_store.specs.declared.entries.Kind.TheVariants.{Full, Semi}
 use Rattle.hex_solve.specs.Deciding.{first, is_for, lines_needed, need, sum_up_to}
 use Rattle.hex_solve.specs.Ledgers.{AnswerAll, CountsBy, GrowsBy, LedgerData, count_of}
 use Rattle.hex_solve.specs.PlainSearch.{tree_lines}
-use Rattle.hex_solve.proofs.FirstWins.{other_back}
+use Rattle.hex_cells.proofs.ColourLaws.{other_back}
 use Rattle.hex_solve.proofs.NextNeed.{first_other, first_own, lines_after, lines_next, need_after}
 use Rattle.hex_solve.proofs.NextNeed.{wins_by}
 use Rattle.hex_solve.proofs.Sums.{sum_none}

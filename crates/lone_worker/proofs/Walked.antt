@@ -26,7 +26,7 @@ use Rattle.tree_words.proofs.Blocks.Orders.{inside-node}
 use Rattle.tree_words.proofs.Walks.Countings.{cond-and, count-more}
 use Rattle.tree_words.proofs.Walks.Down.{plus-nothing}
 use Rattle.tree_words.proofs.Walks.Leaves.{Whole, leaf-spot, adds-at, sees-at}
-use Rattle.tree_words.proofs.Walks.Tallies.{other_again}
+use Rattle.hex_cells.proofs.ColourLaws.{other_back}
 use Rattle.tree_words.proofs.Walks.WalkLaws.{walk-tree, fine-widened, fine-added}
 use Rattle.arena_rule.specs.Views.{Walked}
 use Rattle.arena_rule.specs.Adds.{CountAdd, walk_adds, amount_at}
@@ -111,7 +111,7 @@ module _ (s : Setting) (bs : List LinkedBlock) (whole : Whole (root_at s) bs) (w
       → mover_of s bs w ≡ (node_state s bs c.parent).player
   mover c w i h
       = ap mover_at
-      (up-in (root_state s) (λ b y above. state_after above (cell_at b (place b y))) (root_at s) bs c w whole.order i h) ∙ other_again (node_state s bs c.parent).player
+      (up-in (root_state s) (λ b y above. state_after above (cell_at b (place b y))) (root_at s) bs c w whole.order i h) ∙ other_back (node_state s bs c.parent).player
 
   seen-more : (c : LinkedBlock) (w : ℕ) → In c bs → has_node c w ≡ true
       → seen_by s bs (q ∷ ws) w ≡ plus (seen_by s bs ws w)

@@ -20,7 +20,7 @@ use Rattle.tree_words.proofs.Blocks.BlockLaws.{has-at}
 use Rattle.tree_words.proofs.Blocks.GameLaws.{in-node, up-in}
 use Rattle.tree_words.proofs.Blocks.Members.{node-in}
 use Rattle.tree_words.proofs.Walks.Asking.{spot-size}
-use Rattle.tree_words.proofs.Walks.Tallies.{other_again}
+use Rattle.hex_cells.proofs.ColourLaws.{other_back}
 use Rattle.trace_audit.specs.declared.sites.Site.{Site}
 use Rattle.trace_audit.specs.Tables.{site_state}
 use Rattle.trace_audit.specs.Gains.{GainsLeaf}
@@ -70,7 +70,7 @@ module _ (s : Setting) (bs : List LinkedBlock) (words : List ℕ) (k : ℕ) (h :
       (cell_at b (place b leaf))
       = up-in (root_state s) (λ c z above. state_after above (cell_at c (place c z)))
       (root_at s) bs b leaf lk.order i n in
-      e ∙ ap (λ (q : NodeState). other_of q.player) (state ∙ spot) ∙ other_again (chooser s bs b)
+      e ∙ ap (λ (q : NodeState). other_of q.player) (state ∙ spot) ∙ other_back (chooser s bs b)
 
   module _ (o : Ending) (seed j : ℕ) (seeds : seed ≡ s.knobs.seed) (numbers : j ≡ k)
       (full : o.full ≡ filled site.board site.player seed j)

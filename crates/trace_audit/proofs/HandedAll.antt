@@ -17,7 +17,7 @@ use Rattle.tree_words.proofs.Blocks.BlockLaws.{has-at}
 use Rattle.tree_words.proofs.Blocks.GameLaws.{up-in}
 use Rattle.tree_words.proofs.Blocks.Members.{node-in}
 use Rattle.tree_words.proofs.Walks.Countings.{has-one}
-use Rattle.tree_words.proofs.Walks.Tallies.{other_again}
+use Rattle.hex_cells.proofs.ColourLaws.{other_back}
 use Rattle.trace_audit.specs.Sums.{AreHanded, AreOwn, AreSums, AreStanding, chooser, has_stone}
 use Rattle.trace_audit.specs.Sums.{level, stand}
 use Rattle.trace_audit.proofs.Downward.{parent_low, path_low}
@@ -119,7 +119,7 @@ module _ (s : Setting) (words : List ℕ) (bs : List LinkedBlock) (h : IsSetting
     mover_is : (b : LinkedBlock) (y : ℕ) → In b bs → has_node b y ≡ true
         → chooser s bs b ≡ mover_of s bs y
     mover_is b y i n
-        = sym (ap mover_at (up-in (root_state s) (λ c z above. state_after above (cell_at c (place c z))) r bs b y lk.order i n) ∙ other_again (chooser s bs b))
+        = sym (ap mover_at (up-in (root_state s) (λ c z above. state_after above (cell_at c (place c z))) r bs b y lk.order i n) ∙ other_back (chooser s bs b))
 
     pub all_handed : AreSums s bs words sums s.knobs.playouts
     all_handed = record {

@@ -30,7 +30,7 @@ use Rattle.tree_words.proofs.Blocks.Members.{node-in}
 use Rattle.tree_words.proofs.Walks.Adds.{is_child}
 use Rattle.tree_words.proofs.Walks.Asking.{spot-size}
 use Rattle.tree_words.proofs.Walks.Countings.{has-one}
-use Rattle.tree_words.proofs.Walks.Tallies.{other_again}
+use Rattle.hex_cells.proofs.ColourLaws.{other_back}
 use Rattle.trace_audit.specs.Gains.{AreUnseen, GainsBlock, HasGiftRoom, cell_of_node, rest_gift}
 use Rattle.trace_audit.specs.Gains.{turned_word}
 use Rattle.trace_audit.specs.Sums.{AreHanded, chooser, has_stone, level, stand, standing, tally_of}
@@ -302,7 +302,7 @@ module _ (s : Setting) (words : List ℕ) (bs : List LinkedBlock) (h : IsSetting
     player_is = ap (λ (q : NodeState). q.player) state
 
     player : p ≡ other_of (chooser s bs d)
-    player = sym (other_again p) ∙ ap other_of (sym player_is)
+    player = sym (other_back p) ∙ ap other_of (sym player_is)
 
     pub block_amount : turned_word (slice_index sums d.start) ≡ word_of (amount p)
     block_amount = amount_is p player

@@ -16,7 +16,7 @@ use Rattle.tree_words.proofs.Blocks.GameLaws.{up-in}
 use Rattle.tree_words.proofs.Boards.EmptyLaws.{up-root}
 use Rattle.arena_rule.specs.Adds.{CountAdd, Gathered, seen_adds, root_adds, node_adds, adds_up}
 use Rattle.arena_rule.proofs.AddLaws.{adds-state}
-use Rattle.tree_words.proofs.Walks.Tallies.{other_again}
+use Rattle.hex_cells.proofs.ColourLaws.{other_back}
 
 module _ (s : Setting) (o : Ending) where
   -- at the root: its tally
@@ -52,7 +52,7 @@ module _ (s : Setting) (o : Ending) where
           = up-in (root_state s) (λ c y above. state_after above (cell_at c (place c y)))
           (root_at s) bs b x g i h in
           ap (λ (q : NodeState). q.player) (adds-state s o bs b.parent)
-          ∙ sym (other_again (node_state s bs b.parent).player)
+          ∙ sym (other_back (node_state s bs b.parent).player)
           ∙ ap other_of (sym (t ∙ ap (λ (q : NodeState). q.player) up))
 
 -- the first of the adds that are left is the next

@@ -28,7 +28,7 @@ use Rattle.walker.proofs.Going.{Goes, way-goes}
 use Rattle.walker.proofs.KeepsBlock.{steps-go, no-touch}
 use Rattle.walker.proofs.KeepsUp.{first-left, next-left, up-belongs}
 use Rattle.walker.proofs.AddWay.{adds-root, adds-level}
-use Rattle.tree_words.proofs.Walks.Tallies.{other_again}
+use Rattle.hex_cells.proofs.ColourLaws.{other_back}
 
 module _ (w : Walker) (v : SeatView) (b : Belongs w v) (x : ℕ) where
   order : InOrder (root_at v.shape) v.known
@@ -90,7 +90,7 @@ module _ (w : Walker) (v : SeatView) (b : Belongs w v) (x : ℕ) where
         (root_at v.shape) v.known c w.node order o.0.known o.0.node in
         let player : mover ≡ (node_state v.shape v.known l.parent).player
         = ap other_of (a.climbs.player ∙ ap (λ (p : NodeState). p.player) up)
-        ∙ (other_again (node_state v.shape v.known c.parent).player ∙ ap (λ (y : ℕ). (node_state v.shape v.known y).player) o.0.parent) in
+        ∙ (other_back (node_state v.shape v.known c.parent).player ∙ ap (λ (y : ℕ). (node_state v.shape v.known y).player) o.0.parent) in
         up-belongs w1 u seen b.shape iu b.width b.full refl
         (record {
           up = record { hand = record { ended = a.climbs.up.hand.ended; ticket = a.climbs.up.hand.ticket }; held = a.climbs.up.held; leaf = a.climbs.up.leaf; ending = a.climbs.up.ending };

@@ -5,7 +5,6 @@ use Rattle.std.specs.Prelude.{◌==◌, ◌&&◌, ◌||◌}
 use Rattle.std.specs.List.{list_any}
 use Rattle.hex_cells.specs.Colours.{other_of, is_same}
 use Rattle.hex_cells.specs.declared.colours.Colour.{Colour}
-use Rattle.hex_cells.specs.declared.colours.Colour.TheVariants.{Black, White}
 use Rattle.hex_cells.specs.Sets.{has as has_cell}
 use Rattle.hex_board.specs.Positions.{stones_of}
 use Rattle.tree_words.specs.Settings.{Setting}
@@ -20,6 +19,7 @@ use Rattle.tree_words.specs.Sequence.{outcome_of, one, gain_of, glimpse_of}
 use Rattle.tree_words.specs.Records.{leaf_of, outcome_in, IsRecord}
 use Rattle.tree_words.specs.Counts.{count_below, visits_at, is_seen, sights_at}
 use Rattle.tree_words.specs.Growth.{ends_at}
+use Rattle.hex_cells.proofs.ColourLaws.{other_back}
 use Rattle.tree_words.proofs.Blocks.BlockLaws.{apart, up_same, clash, root_node}
 use Rattle.tree_words.proofs.Blocks.GameLaws.{up-in, spot-same}
 use Rattle.tree_words.proofs.Walks.Climbs.{meets, path-meets}
@@ -228,10 +228,6 @@ more_sights true true u c = refl
 more_sights true false u c = refl
 more_sights false v u c = refl
 
-pub other_again : (c : Colour) → other_of (other_of c) ≡ c
-other_again Black = refl
-other_again White = refl
-
 -- with one record more
 module _ (s : Setting) (bs : List LinkedBlock) (words : List ℕ) (k : ℕ) where
   pub visits-more : (x : ℕ) → visits_at s bs words (suc k) x
@@ -253,7 +249,7 @@ module _ (s : Setting) (bs : List LinkedBlock) (words : List ℕ) (k : ℕ) wher
       = up-in (root_state s) (λ c z above. state_after above (cell_at c (place c z)))
       (root_at s) bs b y g i h in
       let mover : mover_of s bs y ≡ (node_state s bs b.parent).player = ap mover_at spot
-      ∙ other_again (node_state s bs b.parent).player in
+      ∙ other_back (node_state s bs b.parent).player in
       more_sights (enters s bs b (leaf_of words k))
       (has_cell (stones_of o.full (mover_of s bs y)) (cell_at b (place b y)))
       (is_same o.winner (mover_of s bs y)) (sights_at s bs words k b y)
