@@ -5,6 +5,7 @@ use Rattle.std.specs.Prelude.{slice_index_or, All, length, sum_by}
 use Rattle.std.specs.List.{slice_get}
 use Rattle.hex_cells.specs.Sets.{has}
 use Rattle.hex_cells.specs.declared.colours.Colour.{Colour}
+use Rattle.hex_cells.specs.declared.board_size.TheConstants.Size.{MAX}
 use Rattle.hex_board.specs.Elements.{PlayerBoard, element_count}
 use Rattle.hex_board.specs.declared.numbering.TheConstants.{MOST_ELEMENTS}
 use Rattle.hex_board.specs.Positions.{Position, Within, stones_of}
@@ -42,7 +43,7 @@ total_of table = sum_by (λ (h : Held). h.count) table
 
 -- a player's board of at most 121 cells, with his stones on it
 pub record IsSmall (e : PlayerBoard) : Type 0 where
-  pub size : e.board.size ≤ 11
+  pub size : e.board.size ≤ MAX
   pub stones : Within e.board.size (stones_of e.board e.player)
 
 -- what a store keeps: the board and the player of its elements, sound entries, the two tables,

@@ -5,10 +5,10 @@ use Rattle.hex_cells.specs.declared.board_size.TheConstants.{MOST_CELLS}
 use Rattle.conn_store.specs.declared.entries.Kind.{Kind}
 use Rattle.conn_store.specs.declared.entries.Kind.TheVariants.{Full, Semi}
 
--- the player with the stones s is sure of a goal inside the cells c, of which at most `fuel` are
--- used up, if both players place there in turn: the opponent first (full), or himself (semi)
--- he has it, or he is sure of it after each stone of the opponent, if there is one, or after
--- some stone of his own
+-- The player with the stones s is sure of a goal inside the cells c, of which at most `fuel` are
+-- used up, if both players place there in turn, first the opponent (full) or himself (semi): he has
+-- it; or he is sure of it after each stone of the opponent, if there is one, or after some stone of
+-- his own.
 abbrev pub IsSureIn : ℕ → Kind → (ℕ → Type 0) → ℕ → ℕ → Type 0
 IsSureIn zero kind goal s c = goal s
 IsSureIn (suc fuel) Full goal s c =

@@ -3,6 +3,7 @@ use Rattle.std.specs.Prelude.{◌≡◌, ℕ, ◌<◌, ◌≤◌, ◌↔◌, IsT
 use Rattle.hex_cells.specs.Sets.{has}
 use Rattle.hex_cells.specs.Colours.{other_of}
 use Rattle.hex_cells.specs.Edges.{on_edge}
+use Rattle.hex_cells.specs.declared.board_size.TheConstants.Size.{MAX}
 use Rattle.hex_board.specs.Elements.{PlayerBoard, HasCell, are_joined, edge_element, element_count}
 use Rattle.hex_board.specs.Elements.{is_head, is_tied}
 use Rattle.hex_board.specs.declared.numbering.TheConstants.{MOST_ELEMENTS}
@@ -37,6 +38,6 @@ pub record IsNumbered (e : PlayerBoard) (joined : Bool) (first second heads : �
   pub to_first : (k : ℕ) → has first k ≡ is_tied e false k
   pub to_second : (k : ℕ) → has second k ≡ is_tied e true k
   pub headed : (k : ℕ) → has heads k ≡ is_head e k
-  pub sized : e.board.size ≤ 11
+  pub sized : e.board.size ≤ MAX
   pub on_board : Within e.board.size (stones_of e.board e.player)
   pub apart : Apart (stones_of e.board e.player) (stones_of e.board (other_of e.player))

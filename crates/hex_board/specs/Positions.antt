@@ -5,6 +5,7 @@ use Rattle.hex_cells.specs.Colours.{other_of}
 use Rattle.hex_cells.specs.Sets.{has, with_cell}
 use Rattle.hex_cells.specs.declared.colours.Colour.{Colour}
 use Rattle.hex_cells.specs.declared.colours.Colour.TheVariants.{Black, White}
+use Rattle.hex_cells.specs.declared.board_size.TheConstants.Size.{MAX}
 
 -- no cell is in both sets
 abbrev pub Apart : ℕ → ℕ → Type 0
@@ -24,7 +25,7 @@ pub record Position : Type 0 where
 -- apart
 pub record IsPosition (size black white : ℕ) : Type 0 where
   pub least : 1 ≤ size
-  pub most : size ≤ 11
+  pub most : size ≤ MAX
   pub apart : Apart black white
   pub black_on : Within size black
   pub white_on : Within size white

@@ -10,9 +10,9 @@ use Rattle.hex_board.specs.Positions.{Position, stones_of, is_empty_at, placed}
 abbrev pub empty_count : Position → ℕ
 empty_count p = count_by (is_empty_at p) (cells_of p.size)
 
--- the player wins within `fuel` more stones, `mover` being to place the next: he is joined, or a
--- cell is empty, and after some stone of his own, or after every stone of the other player, he wins
--- with the other to move
+-- The player wins within `fuel` more stones, with `mover` to place the next: he is joined; or a
+-- cell is empty, and after some stone, if he is the mover, or after every stone, if the other
+-- player is, he wins with the next player to move.
 abbrev pub WinsIn : ℕ → Colour → Position → Colour → Type 0
 WinsIn zero player p mover = is_joined p.size player (stones_of p player) ≡ true
 WinsIn (suc fuel) player p mover =

@@ -1,6 +1,7 @@
 //! The size of a board.
 
 ghost use Rattle.std.specs.Prelude.{◌≡◌, ℕ, ◌*◌, ◌≤◌, MatchOption};
+ghost use Rattle.hex_cells.specs.declared.board_size.TheConstants.Size.{MAX};
 
 use std::marker::Model;
 
@@ -20,7 +21,7 @@ impl Model for Size {
 
     ghost inverse = { λ n. record { n = n } };
 
-    ghost invariant = { λ s. (1 ≤ s.n) × (s.n ≤ 11) };
+    ghost invariant = { λ s. (1 ≤ s.n) × (s.n ≤ MAX) };
 }
 
 impl Size {

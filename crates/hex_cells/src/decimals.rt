@@ -9,7 +9,7 @@ use std::alloc::{AllocError, Global};
 /// Bytes that are room for the decimal of any number below 100.
 pub const DECIMAL_LEN: usize = 2;
 
-/// Writes a number below 100 in decimal, without leading zero, at the front of `out`, and answers
+/// Writes a number below 100 in decimal, without leading zero, at the start of `out`, and answers
 /// its length, 1 or 2. The rest of `out` stays.
 pub fn write_decimal(number: u32, out: &mut [u8]) -> usize
     requires number { number < 100 }

@@ -211,7 +211,7 @@ impl CellSet {
 
     // The set with each number risen by `by`, if that is a cell of `all`.
     pub(crate) fn up(self, by: u32, all: CellSet) -> CellSet
-        requires { by ≤ 11 }
+        requires { by ≤ Size.MAX }
         ensures { (k : ℕ) → has result k ≡ (has all k && (not (nat_lt k by) && has self (k - by))) }
     {
         CellSet {
@@ -221,7 +221,7 @@ impl CellSet {
 
     // The set with each number lowered by `by`; those below `by` are dropped.
     pub(crate) fn down(self, by: u32) -> CellSet
-        requires { by ≤ 11 }
+        requires { by ≤ Size.MAX }
         ensures { (k : ℕ) → has result k ≡ has self (k + by) }
     {
         CellSet {

@@ -55,7 +55,7 @@ fn number_of(digits: &[u8]) -> Option<u32>
     Some(10 * first + second)
 }
 
-/// Writes the lower-case vertex of a cell of the board at the front of `out`, and answers its
+/// Writes the lower-case vertex of a cell of the board at the start of `out`, and answers its
 /// length, 2 or 3. The rest of `out` stays.
 pub fn write_vertex(cell: Cell, size: Size, out: &mut [u8; VERTEX_LEN]) -> usize
     requires { cell < size * size }
@@ -98,5 +98,5 @@ pub fn read_vertex(text: &[u8], size: Size) -> Option<Cell>
 
 /// A law, with nothing to run: the vertex of each cell of a board is read back as that cell.
 pub fn vertex_is_read_back()
-    ensures { (n k : ℕ) → n ≤ 11 → k < n * n → vertex_cell n (vertex_of n k) ≡ Some k }
+    ensures { (n k : ℕ) → n ≤ Size.MAX → k < n * n → vertex_cell n (vertex_of n k) ≡ Some k }
 {}

@@ -29,7 +29,7 @@ use Rattle.hex_devices.specs.declared.ends.End.TheVariants.{Done}
 
 -- If the turn's plan is a win, its cell wins against every reply. If it is a search, the turn
 -- has a tree, which was searched for it and is closed: the cell is the least of the root's children
--- of most visits, and with one worker the tree is that of Seq.
+-- of most visits, and with one worker the tree is the sequential definition's.
 abbrev pub WinsOrIsBest : Knobs → TurnData → Plan → Type 0
 WinsOrIsBest knobs turn (Win cert cell) = WinsBy turn.board turn.player turn.cell
 WinsOrIsBest knobs turn (Search threats allowed lost) =

@@ -3,6 +3,7 @@ use Rattle.std.specs.Prelude.{ℕ, ◌==◌, ◌&&◌, Bool, List, [], ◌∷◌
 use Rattle.std.specs.Prelude.{nat_le, if◌then◌else◌}
 use Rattle.std.specs.Option.{option_map_or}
 use Rattle.hex_cells.specs.declared.colours.Colour.{Colour}
+use Rattle.hex_cells.specs.declared.board_size.TheConstants.Size.{MAX}
 use Rattle.hex_board.specs.Positions.{empty_board}
 use Rattle.hex_game.specs.Games.{GameData, board_of, is_legal, new_game, with_step, without_last}
 use Rattle.hex_game.specs.Moves.{step_of}
@@ -41,7 +42,7 @@ emptied size = success_at (new_game (empty_board size))
 abbrev pub resized : GameData → Option (ℕ × ℕ) → QuietReaction
 resized game None = reply_alone game (Failed Syntax)
 resized game (Some sizes) =
-    if (sizes.0 == sizes.1) && (nat_le 1 sizes.0 && nat_le sizes.0 11) then emptied sizes.0
+    if (sizes.0 == sizes.1) && (nat_le 1 sizes.0 && nat_le sizes.0 MAX) then emptied sizes.0
     else reply_alone game (Failed Size)
 
 -- what `play` does with this word of a move

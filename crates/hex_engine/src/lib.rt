@@ -24,10 +24,7 @@
 //! **What is only tested, or not said.** That memory suffices. How strong a move is. That a win is
 //! not searched: a turn with such a plan has no tree, but no clause says that none was made.
 //!
-//! **To add a quiet command**, add it to [`Quiet`], to the tables of commands.rt and
-//! specs/Commands.antt, and to `obeyed_quietly` of specs/QuietReplies.antt; then write its handler
-//! with that line of `obeyed_quietly` as its contract, and its line in quiet.rt. One that takes no
-//! arguments is refused some before its handler is asked. No proof has a table of commands.
+//! **A new command:** docs/change/RECIPES.md, "A pure command". No proof has a table of commands.
 //!
 //! **Limits.** Boards of size 1 to 11, and 1 to 64 workers.
 //!

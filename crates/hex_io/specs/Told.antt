@@ -24,7 +24,7 @@ together None b = None
 together (Some x) None = None
 together (Some x) (Some y) = Some (x, y)
 
--- a read took the first n bytes of what was to come, and they stand at the front of buf
+-- a read took the first n bytes of what was to come, and they stand at the start of buf
 pub record TakesBytes (old new : Told) (n : ℕ) (buf : List ℕ) : Type 0 where
   pub moved : old.to_come ≡ take n buf ++ new.to_come
   pub taken : new.taken ≡ old.taken ++ take n buf

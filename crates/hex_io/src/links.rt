@@ -19,7 +19,7 @@ pub trait Link {
 
     ghost write_faults: { Self → ℕ };
 
-    /// Moves bytes to the front of `buf`, which is not empty, and answers how many.
+    /// Moves bytes to the start of `buf`, which is not empty, and answers how many.
     ///
     /// 0 comes only at the end of what is to come. At a fault no byte was moved.
     fn read(&mut self, buf: &mut [u8]) -> Result<usize, LinkFault>

@@ -25,7 +25,7 @@ impl Source {
         self.bytes.len() - self.at
     }
 
-    /// Moves the first `count` bytes to the front of `buf`.
+    /// Moves the first `count` bytes to the start of `buf`.
     pub fn take(&mut self, count: usize, buf: &mut [u8])
         requires left { count ≤ length (drop self.old.at self.old.bytes.items) }
         requires room { count ≤ length buf.old }

@@ -12,9 +12,10 @@
 --    and there is one).
 -- 3. Turns: src/turns.rt with proofs/Decides; their texts: src/texts.rt, report_texts.rt,
 --    mustplay_texts.rt with proofs/Rows and Lines.
--- 4. The laws: proofs/SureWins (who is sure of joining his edges on a later board wins it, by
---    conn_store's laws `truth_goes_on` and `connected_edges_win`), CertifiedMoves (of plans, and so
---    of good turns). With one worker: Reports and Same.
+-- 4. That certified moves win: proofs/CertifiedMoves (`is_certified`, of good turns, by
+--    `plan_wins`, of plans). Behind it stands SureWins: who is sure of joining his edges on a later
+--    board wins it, by conn_store's proofs/Winning (`sure_wins`), and a report's entries are true,
+--    by its proofs/RuleTruth (`sound_true`). With one worker: Reports and Same.
 
 -- Laws for the layers above.
 pub mod CertifiedMoves

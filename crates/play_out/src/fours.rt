@@ -62,7 +62,7 @@ fn list_four(cells: &mut [Cell; MOST_EMPTIES], count: usize, first: u32, four: u
     count + four.count_ones() as usize
 }
 
-/// Writes the empty cells of the board, in rising order, at the front of `cells`, and answers how
+/// Writes the empty cells of the board, in rising order, at the start of `cells`, and answers how
 /// many they are.
 pub(crate) fn list_empties(board: &Board, cells: &mut [Cell; MOST_EMPTIES]) -> usize
     ensures list { take result cells.new ≡ empties_of board.now }

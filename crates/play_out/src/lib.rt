@@ -18,8 +18,8 @@
 //! Black exactly if a path of Black's stones leads from his first edge to his second.
 //!
 //! **What is only tested, or not said.** That the words are those of the published generator: tests
-//! compare them. That exactly one player is joined on a filled board is not said, and nor are speed
-//! and how even the shuffle is.
+//! compare them. No clause says that exactly one player is joined on a filled board, how fast it
+//! is, or that each fill of a board is as likely as any other (but see below).
 //!
 //! **Limits.** Boards of up to 121 cells. No call takes memory, asks anything of its caller or
 //! refuses.
@@ -32,9 +32,11 @@
 //!   whether the places differ takes a fifth more.
 //! - Empty cells are listed by fours, from a table of the bits of each number below 16: a third
 //!   less work on the largest board than cell by cell.
-//! - How even the shuffle is (how near to uniform): `word * (i + 1) / 2^64` takes each of `i + 1`
-//!   places for equally many words but for one. So with at most 121 cells no place is likelier than
-//!   another by 2^-57 of its share, if the words are uniform.
+//! - How near to uniform a fill is: `word * (i + 1) / 2^64` takes each of `i + 1` places for
+//!   equally many words, or one more. So with at most 121 cells no place is likelier than another
+//!   by 2^-57 of its share. If the words are uniform and independent, each order of the cells is
+//!   then as likely as any other but for 2^-51 of its share. Each fill has equally many orders, so
+//!   the same holds of fills.
 #![tactic(auto)]
 
 mod dealing;

@@ -62,7 +62,7 @@ fn shuffle(cells: &mut [Cell], generator: &mut Xoshiro256PlusPlus)
 }
 
 /// Writes the empty cells of the board, in the order in which playout `k` of a search with this
-/// seed fills them, at the front of `cells`, and answers how many they are. The cells behind them
+/// seed fills them, at the start of `cells`, and answers how many they are. The cells behind them
 /// are left over.
 pub fn write_order(board: &Board, seed: u64, k: u64, cells: &mut [Cell; MOST_EMPTIES]) -> usize
     ensures order { take result cells.new ≡ order_of board.now seed k }

@@ -12,6 +12,7 @@ use Rattle.tree_words.specs.Counts.{count_below}
 use Rattle.seq_search.specs.declared.descending.Descent.{Descent}
 use Rattle.seq_search.specs.declared.descending.TheConstants.{MOST_STEPS}
 use Rattle.hex_cells.specs.declared.board_size.TheConstants.{MOST_CELLS}
+use Rattle.hex_cells.specs.declared.board_size.TheConstants.Size.{MAX}
 
 -- the board and the player to move
 abbrev pub spot_in : Descent → NodeState
@@ -27,7 +28,7 @@ left_on p = count_below MOST_CELLS (is_empty_at p)
 
 -- There is room for its further steps: each takes an empty cell.
 pub record HasRoom (d : Descent) : Type 0 where
-  pub size : d.board.size ≤ 11
+  pub size : d.board.size ≤ MAX
   pub cells : d.count + left_on d.board ≤ MOST_STEPS
   pub long : length d.steps ≡ MOST_STEPS
 

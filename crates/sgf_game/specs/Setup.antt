@@ -7,6 +7,7 @@ use Rattle.std.specs.Option.{option_map_or}
 use Rattle.std.specs.Str.{bytes_eq}
 use Rattle.hex_cells.specs.Sets.{with_cell}
 use Rattle.hex_cells.specs.Vertices.{vertex_cell}
+use Rattle.hex_cells.specs.declared.board_size.TheConstants.Size.{MAX}
 use Rattle.hex_board.specs.Positions.{Position}
 use Rattle.sgf_tree.specs.declared.lists.Node.{Node}
 use Rattle.sgf_game.specs.Values.{has_named, values_named, first_named}
@@ -22,11 +23,11 @@ is_size text n = bytes_eq text (decimal n) || bytes_eq text (decimal n ++ 58 ∷
 
 -- the size from 1 to 11 that a text names
 unfoldable pub size_named : List ℕ → Option ℕ
-size_named text = find (is_size text) (range_with_len 1 11)
+size_named text = find (is_size text) (range_with_len 1 MAX)
 
 -- the size that the first SZ names, and 11 without SZ
 abbrev pub size_of : Node → Option ℕ
-size_of root = option_map_or size_named (first_named (codes "SZ") root) (Some 11)
+size_of root = option_map_or size_named (first_named (codes "SZ") root) (Some MAX)
 
 -- the cells that the values under this name are vertices of
 abbrev pub cells_named : ℕ → List ℕ → Node → List (Option ℕ)

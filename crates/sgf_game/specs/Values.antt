@@ -7,7 +7,7 @@ use Rattle.sgf_tree.specs.declared.lists.Prop.{Prop}
 use Rattle.sgf_tree.specs.declared.lists.Node.{Node}
 use Rattle.sgf_tree.specs.Grammar.{is_white_space}
 
--- without the white space at its front
+-- without the white space at its start
 abbrev pub without_front_space : List ℕ → List ℕ
 without_front_space [] = []
 without_front_space (x ∷ text) = if is_white_space x then without_front_space text else x ∷ text

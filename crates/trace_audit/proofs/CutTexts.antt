@@ -10,11 +10,11 @@ use Rattle.trace_audit.specs.Traces.{trace_text, written_count}
 use Rattle.trace_audit.specs.Told.{AreWords, IsReadTree}
 use Rattle.tree_words.specs.Areas.{IsCut, with_area, all_words}
 use Rattle.tree_words.proofs.Areas.CutAreas.{all_long, zeros_behind}
-use Rattle.trace_audit.specs.Texts.{StandAt, IsFront}
+use Rattle.trace_audit.specs.Texts.{StandAt, IsHeader}
 use Rattle.trace_audit.specs.Verdicts.{BeginsWithTree}
 use Rattle.trace_audit.proofs.TextWords.{text_is, text_none}
 
-module _ (bytes words : List ℕ) (s c : Setting) (q : ℕ) (f : IsFront bytes s q)
+module _ (bytes words : List ℕ) (s c : Setting) (q : ℕ) (f : IsHeader bytes s q)
     (less : end_of c ≤ end_of s) (enough : q ≤ end_of c) (long : length words ≡ end_of c)
     (a : AreWords words) (stand : StandAt bytes 128 (take q words)) where
   abbrev zeros : List ℕ

@@ -6,13 +6,13 @@ use Rattle.hex_io.specs.Told.{Told}
 use Rattle.hex_io.specs.Grew.{Gave, GaveProperPart}
 use Rattle.hex_io.proofs.GaveLaws.{Gave-then}
 
--- a proper front of the first of two texts
+-- a proper prefix of the first of two texts
 pub front_first : (a b : Option Told) (xs ys : List ℕ) → GaveProperPart a b xs
     → GaveProperPart a b (xs ++ ys)
 front_first a b xs ys p
     = (p.0, p.1 ++ ys, ap (λ l. l ++ ys) p.2 ∙ append_assoc p.0 p.1 ys, omega (arith, length-append p.1 ys, p.3), p.4)
 
--- all of the first text, and then a proper front of the second
+-- all of the first text, and then a proper prefix of the second
 pub front_second : (a b c : Option Told) (xs ys : List ℕ) → Gave a b xs → GaveProperPart b c ys
     → GaveProperPart a c (xs ++ ys)
 front_second a b c xs ys g p

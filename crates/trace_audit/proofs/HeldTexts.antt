@@ -8,13 +8,13 @@ use Rattle.tree_words.specs.Settings.{Setting}
 use Rattle.tree_words.specs.Words.{end_of}
 use Rattle.trace_audit.specs.Told.{AreWords}
 use Rattle.trace_audit.specs.Traces.{bytes_of}
-use Rattle.trace_audit.specs.Texts.{IsFront, StandAt}
+use Rattle.trace_audit.specs.Texts.{IsHeader, StandAt}
 use Rattle.trace_audit.specs.WordLists.{words_from}
 use Rattle.trace_audit.proofs.FromBytes.{from_long, from_past, from_stand, from_words, taken_small}
 
--- behind the front of a text stand its q words, up to the byte `end`; n words are read from there
+-- behind the header of a text stand its q words, up to the byte `end`; n words are read from there
 module _ (bytes : List ℕ) (small : (k : ℕ) → slice_index bytes k < 256) (s c : Setting)
-    (q n end : ℕ) (f : IsFront bytes s q) (ends : end ≡ 128 + 8 * q) (total : n ≡ end_of c)
+    (q n end : ℕ) (f : IsHeader bytes s q) (ends : end ≡ 128 + 8 * q) (total : n ≡ end_of c)
     (enough : q ≤ end_of c) where
   abbrev pub held : List ℕ
   held = take (end - 128) (drop 128 bytes)

@@ -8,7 +8,7 @@ use Rattle.std.proofs.lemmas.List.{append_cancel_left, ext_get_or, get_or-take}
 use Rattle.tree_words.specs.Words.{end_of}
 use Rattle.tree_words.specs.Closing.{ClosedTree, IsClosed}
 use Rattle.trace_audit.specs.Traces.{bytes_of, trace_text, written_count}
-use Rattle.trace_audit.specs.Texts.{StandAt, IsFront}
+use Rattle.trace_audit.specs.Texts.{StandAt, IsHeader}
 use Rattle.trace_audit.specs.Verdicts.{AreTexts, BeginsWithTree, FailsFirst, HasFlaw, IsVerdictOn}
 use Rattle.trace_audit.specs.declared.types.Audit.{Audit}
 use Rattle.trace_audit.specs.declared.types.Audit.TheVariants.{Yes, No}
@@ -21,7 +21,7 @@ use Rattle.trace_audit.proofs.TextTree.{begins_front}
 use Rattle.trace_audit.proofs.TextWords.{begins_long, behind, text_words, written_most}
 use Rattle.trace_audit.proofs.OneFlaw.{closed_holds, fails_one}
 
--- the written words stand behind the front
+-- the written words stand behind the header
 stands : (t : ClosedTree) (bytes : List ℕ) (b : BeginsWithTree t bytes)
     → StandAt bytes 128 (take (written_count t.words) t.words)
 stands t bytes b =
@@ -31,11 +31,11 @@ stands t bytes b =
     sym (ap (take (8 * length ws)) at ∙ ap (λ n. take n (bytes_of ws ++ b.rest)) (sym (bytes_long ws)) ∙ take_front (bytes_of ws) b.rest)
 
 front_is : (t : ClosedTree) (bytes : List ℕ) (b : BeginsWithTree t bytes)
-    → IsFront bytes t.shape (written_count t.words)
+    → IsHeader bytes t.shape (written_count t.words)
 front_is t bytes b = record {
   setting = b.read.shape;
-  front = begins_front t bytes b;
-  least = b.read.front;
+  header = begins_front t bytes b;
+  least = b.read.area;
   most = written_most t b.read;
   long = begins_long t bytes b.read b;
 }

@@ -31,7 +31,7 @@ piece_all a b c ws bytes i j l g e p =
     subst (λ k. Gave a c (bytes_of (take k ws))) same
     (subst (λ z. Gave a c z) (sym (bytes_more ws i (j - i))) both)
 
--- the words below i were given, and then a proper front of n more
+-- the words below i were given, and then a proper prefix of n more
 pub piece_proper : (a b c : Option Told) (ws bytes : List ℕ) (i n : ℕ)
     → Gave a b (bytes_of (take i ws)) → bytes ≡ bytes_of (take n (drop i ws))
     → GaveProperPart b c bytes → GaveProperPart a c (bytes_of ws)

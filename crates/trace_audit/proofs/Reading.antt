@@ -82,7 +82,7 @@ tells_closed t h c range =
         shape = h;
         words = read_words words q within range;
         long = long ∙ c.long;
-        front = omega (arith, count, area);
+        area = omega (arith, count, area);
         rest = λ i l. read_rest words q i within (omega (arith, count, l));
       };
       shape = refl;

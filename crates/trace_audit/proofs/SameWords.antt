@@ -33,7 +33,7 @@ node_below s next (b ∷ bs) x l c n = ⊎_elim
         → x + 3 < next
     in_block b x next h l = let k = has-at b x h in omega (arith, k.1, k.2, l)
 
--- the words in front of the area lie below NEXT
+-- the words before the area lie below NEXT
 pub front_below : (s : Setting) (words : List ℕ) → IsSetting s → IsClosed s words
     → area_at s ≤ next_in words
 front_below s words h c =

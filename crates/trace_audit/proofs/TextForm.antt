@@ -10,7 +10,7 @@ use Rattle.trace_audit.specs.Traces.{bytes_of}
 use Rattle.trace_audit.specs.Texts.{BeginWith, StandAt}
 use Rattle.trace_audit.proofs.WordBytes.{bytes_long}
 
--- the front of a text has 128 bytes
+-- the header of a text has 128 bytes
 pub front_long : (bytes fields : List ℕ) → length fields ≡ 15 → BeginWith bytes fields
     → 128 ≤ length bytes
 front_long bytes fields l b =

@@ -1,4 +1,4 @@
--- What the front of a text tells, and that it tells one shape.
+-- What the header of a text says, and that it tells one shape.
 use Rattle.std.proofs.Common.{◌≡◌, ℕ, zero, suc, ◌<◌, ◌^◌, List, [], ◌∷◌, ◌++◌, length, take, refl}
 use Rattle.std.proofs.Common.{sym, ap, ◌∙◌, arith, append_assoc, get_or}
 use Rattle.std.specs.Prelude.{slice_index, codes}
@@ -16,7 +16,7 @@ use Rattle.trace_audit.specs.Verdicts.{BeginsWithTree}
 use Rattle.trace_audit.proofs.WordBytes.{words_same}
 use Rattle.trace_audit.proofs.FieldLaws.{on_small, allowed_small}
 
--- the front of a text
+-- the header of a text
 abbrev pub begins_front : (t : ClosedTree) (bytes : List ℕ) → BeginsWithTree t bytes
     → BeginWith bytes (fields_of t.shape (written_count t.words))
 begins_front t bytes b =

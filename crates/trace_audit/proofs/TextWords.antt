@@ -13,7 +13,7 @@ use Rattle.tree_words.specs.Closing.{ClosedTree}
 use Rattle.trace_audit.specs.Traces.{bytes_of, fields_of, trace_text, written_count}
 use Rattle.trace_audit.specs.Told.{AreWords, IsReadTree}
 use Rattle.trace_audit.specs.Fields.{TellShape}
-use Rattle.trace_audit.specs.Texts.{BeginWith, StandAt, AreFields, IsFront}
+use Rattle.trace_audit.specs.Texts.{BeginWith, StandAt, AreFields, IsHeader}
 use Rattle.trace_audit.specs.Verdicts.{BeginsWithTree}
 use Rattle.trace_audit.proofs.WordBytes.{bytes_long, words_same}
 use Rattle.trace_audit.proofs.TextTree.{begins_front, front_one, fields_words, fields_tell}
@@ -31,7 +31,7 @@ pub tree_fields : (bytes fields : List ℕ) (t : ClosedTree) → AreFields bytes
 tree_fields bytes fields t f b =
     let q : ℕ = written_count t.words in
     front_one bytes fields (fields_of t.shape q) f.words
-    (fields_words t.shape q b.read.shape (omega (arith, written_most t b.read, end_small t.shape b.read.shape))) f.count f.front (begins_front t bytes b)
+    (fields_words t.shape q b.read.shape (omega (arith, written_most t b.read, end_small t.shape b.read.shape))) f.count f.header (begins_front t bytes b)
 
 pub tree_told : (bytes fields : List ℕ) (t : ClosedTree) → AreFields bytes fields
     → BeginsWithTree t bytes → TellShape fields t.shape
@@ -64,17 +64,17 @@ count_fits bytes fields s t f h b =
     = ap (λ l. slice_index l 14) (tree_fields bytes fields t f b) in
     let area : area_at t.shape ≡ area_at s = ap area_at same in
     let end : end_of t.shape ≡ end_of s = ap end_of same in
-    (omega (arith, count, area, b.read.front), omega (arith, count, end, written_most t b.read), omega (arith, count, begins_long t bytes b.read b))
+    (omega (arith, count, area, b.read.area), omega (arith, count, end, written_most t b.read), omega (arith, count, begins_long t bytes b.read b))
 
--- the front that was read
+-- the header that was read
 pub front_read : (bytes fields : List ℕ) (s : Setting) (count : ℕ) → IsSetting s
     → AreFields bytes fields → TellShape fields s → count ≡ slice_index fields 14
     → (area_at s ≤ count) × (count ≤ end_of s) × (8 * count ≤ length bytes - 128)
-    → IsFront bytes s count
+    → IsHeader bytes s count
 front_read bytes fields s count k f h e r = record {
   setting = k;
-  front = subst (BeginWith bytes)
-      (told_fields fields s f.count h ∙ ap (fields_of s) (sym e)) f.front;
+  header = subst (BeginWith bytes)
+      (told_fields fields s f.count h ∙ ap (fields_of s) (sym e)) f.header;
   least = r.0;
   most = r.1;
   long = omega (arith, r.2, f.long);
@@ -86,7 +86,7 @@ take_words ws n a i = ⊎_elim
     (λ (l : n ≤ i). omega (arith, get_or_past (take n ws) i 0 (omega (arith, length-take n ws, l))))
     (cases_lt i n)
 
--- what stands behind the front
+-- what stands behind the header
 pub behind : (bytes : List ℕ) (s : Setting) (q : ℕ) (f : BeginWith bytes (fields_of s q))
     → drop 128 bytes ≡ f.0
 behind bytes s q f =
@@ -96,7 +96,7 @@ behind bytes s q f =
     ap (drop 128) (f.1 ∙ sym (append_assoc (codes "HEXTREE1") (bytes_of (fields_of s q)) f.0))
     ∙ drop_at front f.0 128 long
 
--- the words behind the front, and what follows them
+-- the words behind the header, and what follows them
 pub stand_split : (bytes ws : List ℕ) → StandAt bytes 128 ws
     → drop 128 bytes ≡ bytes_of ws ++ drop (128 + 8 * length ws) bytes
 stand_split bytes ws h =
@@ -105,7 +105,7 @@ stand_split bytes ws h =
     ∙ ap (λ l. bytes_of ws ++ l) (drop-drop (8 * length ws) 128 bytes)
 
 -- the tree of the words that were read
-pub text_begins : (bytes words : List ℕ) (s : Setting) (q : ℕ) → IsFront bytes s q
+pub text_begins : (bytes words : List ℕ) (s : Setting) (q : ℕ) → IsHeader bytes s q
     → length words ≡ end_of s → StandAt bytes 128 (take q words) → written_count words ≡ q
     → bytes ≡ trace_text (record { shape = s; words = words }) ++ drop (128 + 8 * q) bytes
 text_begins bytes words s q f l h e =
@@ -113,15 +113,15 @@ text_begins bytes words s q f l h e =
     let fs : List ℕ = bytes_of (fields_of s q) in
     let ws : List ℕ = bytes_of (take q words) in
     let rest : List ℕ = drop (128 + 8 * q) bytes in
-    let split : f.front.0 ≡ ws ++ rest = sym (behind bytes s q f.front)
+    let split : f.header.0 ≡ ws ++ rest = sym (behind bytes s q f.header)
     ∙ stand_split bytes (take q words) h ∙ ap (λ n. ws ++ drop (128 + 8 * n) bytes) front in
-    let whole : bytes ≡ codes "HEXTREE1" ++ (fs ++ (ws ++ rest)) = f.front.1
+    let whole : bytes ≡ codes "HEXTREE1" ++ (fs ++ (ws ++ rest)) = f.header.1
     ∙ ap (λ z. codes "HEXTREE1" ++ (fs ++ z)) split in
     whole ∙ ap (λ z. codes "HEXTREE1" ++ z) (sym (append_assoc fs ws rest))
     ∙ sym (append_assoc (codes "HEXTREE1") (fs ++ ws) rest)
     ∙ ap (λ n. (codes "HEXTREE1" ++ (bytes_of (fields_of s n) ++ bytes_of (take n words))) ++ rest) (sym e)
 
-pub text_tree : (bytes words : List ℕ) (s : Setting) (q : ℕ) → IsFront bytes s q
+pub text_tree : (bytes words : List ℕ) (s : Setting) (q : ℕ) → IsHeader bytes s q
     → length words ≡ end_of s → AreWords words → ((i : ℕ) → q ≤ i → slice_index words i ≡ 0)
     → written_count words ≡ q
     → IsReadTree (record { shape = s; words = words })
@@ -129,12 +129,12 @@ text_tree bytes words s q f l a z e = record {
   shape = f.setting;
   words = a;
   long = l;
-  front = omega (arith, e, f.least);
+  area = omega (arith, e, f.least);
   rest = λ i m. z i (omega (arith, e, m));
 }
 
 -- a text that the bytes begin with has the words that were read
-pub text_words : (bytes words : List ℕ) (s : Setting) (q : ℕ) (t : ClosedTree) → IsFront bytes s q
+pub text_words : (bytes words : List ℕ) (s : Setting) (q : ℕ) (t : ClosedTree) → IsHeader bytes s q
     → length words ≡ end_of s → AreWords words → StandAt bytes 128 (take q words)
     → BeginsWithTree t bytes
     → (s ≡ t.shape) × (q ≡ written_count t.words) × (take q words ≡ take q t.words)
@@ -144,7 +144,7 @@ text_words bytes words s q t f l a h b =
     let same : fields_of s q ≡ fields_of t.shape p
     = front_one bytes (fields_of s q) (fields_of t.shape p)
     (fields_words s q f.setting (omega (arith, f.most, end_small s f.setting)))
-    (fields_words t.shape p b.read.shape (omega (arith, written_most t b.read, end_small t.shape b.read.shape))) refl f.front mine in
+    (fields_words t.shape p b.read.shape (omega (arith, written_most t b.read, end_small t.shape b.read.shape))) refl f.header mine in
     let shape : s ≡ t.shape = shape_one (fields_of s q) s t.shape (fields_tell s q)
     (subst (λ z. TellShape z t.shape) (sym same) (fields_tell t.shape p)) in
     let count : q ≡ p = ap (λ z. slice_index z 14) same in
@@ -157,7 +157,7 @@ text_words bytes words s q t f l a h b =
     (shape, count, words_same (take q words) (take q t.words) _ _ (take_words words q a) (take_words t.words q b.read.words) (long ∙ sym long') split)
 
 -- so none begins them if the count is another one
-pub text_none : (bytes words : List ℕ) (s : Setting) (q : ℕ) → IsFront bytes s q
+pub text_none : (bytes words : List ℕ) (s : Setting) (q : ℕ) → IsHeader bytes s q
     → length words ≡ end_of s → AreWords words → StandAt bytes 128 (take q words)
     → (written_count words ≡ q → ⊥)
     → (t : ClosedTree) → BeginsWithTree t bytes → ⊥
@@ -171,7 +171,7 @@ text_none bytes words s q f l a h n t b =
     n ((λ i. min (next i) (long i)) ∙ sym w.1)
 
 -- all that was read, if the words stand in a vector
-pub text_is : (bytes items words : List ℕ) (s : Setting) (q : ℕ) → items ≡ words → IsFront bytes s q
+pub text_is : (bytes items words : List ℕ) (s : Setting) (q : ℕ) → items ≡ words → IsHeader bytes s q
     → length words ≡ end_of s → AreWords words → StandAt bytes 128 (take q words)
     → ((i : ℕ) → q ≤ i → slice_index words i ≡ 0) → written_count words ≡ q
     → IsReadTree (record { shape = s; words = items })

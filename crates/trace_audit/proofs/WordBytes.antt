@@ -34,7 +34,7 @@ bytes_long [] = refl
 bytes_long (w ∷ ws) = length-append (to_le_bytes w64 w) (bytes_of ws)
     ∙ omega (arith, bytes_long ws, word_long w)
 
--- the front of two lists
+-- the prefixes of two lists
 pub take_front : (xs ys : List ℕ) → take (length xs) (xs ++ ys) ≡ xs
 take_front [] ys = refl
 take_front (x ∷ xs) ys = ap (λ l. x ∷ l) (take_front xs ys)

@@ -8,7 +8,7 @@ use Rattle.trace_audit.specs.Traces.{bytes_of, fields_of, trace_text}
 use Rattle.trace_audit.specs.Told.{AreWords, IsReadTree}
 use Rattle.trace_audit.specs.Verdicts.{BeginsWithTree}
 use Rattle.trace_audit.specs.declared.parsing.Text.{Text}
-use Rattle.trace_audit.specs.declared.parsing.TheConstants.{FRONT_BYTES}
+use Rattle.trace_audit.specs.declared.parsing.TheConstants.{HEADER_BYTES}
 use Rattle.trace_audit.specs.declared.places.TheConstants.{FIELDS}
 use Rattle.trace_audit.specs.declared.texts.TheConstants.{WORD_BYTES}
 
@@ -25,10 +25,10 @@ BeginWith bytes fields =
 pub record AreFields (bytes fields : List ℕ) : Type 0 where
   pub count : length fields ≡ FIELDS
   pub words : AreWords fields
-  pub front : BeginWith bytes fields
-  pub long : FRONT_BYTES ≤ length bytes
+  pub header : BeginWith bytes fields
+  pub long : HEADER_BYTES ≤ length bytes
 
--- no fields stand so at the front of the bytes
+-- no fields stand so at the start of the bytes
 abbrev pub LacksFields : List ℕ → Type 0
 LacksFields bytes = (fields : List ℕ) → length fields ≡ FIELDS → ¬ (BeginWith bytes fields)
 
@@ -36,20 +36,20 @@ LacksFields bytes = (fields : List ℕ) → length fields ≡ FIELDS → ¬ (Beg
 abbrev pub BeginsWithNoTree : List ℕ → Type 0
 BeginsWithNoTree bytes = (tree : ClosedTree) → ¬ (BeginsWithTree tree bytes)
 
--- so many words may follow the front of a text of this shape: from all in front of the block area
--- to all of the tree, and no more than so many bytes have
+-- so many words may follow the header of a text of this shape: from all before the block area to
+-- all of the tree, and no more than so many bytes have
 abbrev pub MayFollow : Setting → ℕ → ℕ → Type 0
 MayFollow s count bytes =
     (area_at s ≤ count) × (count ≤ end_of s) × (WORD_BYTES * count ≤ bytes)
 
--- the bytes begin with the front of a text of this shape and so many words, and have as many: from
--- all in front of the block area to all of the tree
-pub record IsFront (bytes : List ℕ) (s : Setting) (count : ℕ) : Type 0 where
+-- the bytes begin with the header of a text of this shape and so many words, and have as many: from
+-- all before the block area to all of the tree
+pub record IsHeader (bytes : List ℕ) (s : Setting) (count : ℕ) : Type 0 where
   pub setting : IsSetting s
-  pub front : BeginWith bytes (fields_of s count)
+  pub header : BeginWith bytes (fields_of s count)
   pub least : area_at s ≤ count
   pub most : count ≤ end_of s
-  pub long : FRONT_BYTES + WORD_BYTES * count ≤ length bytes
+  pub long : HEADER_BYTES + WORD_BYTES * count ≤ length bytes
 
 -- the tree of what was read
 abbrev pub closed_tree_of : Text → ClosedTree
@@ -61,5 +61,5 @@ pub record IsText (bytes : List ℕ) (text : Text) : Type 0 where
   pub read : IsReadTree (closed_tree_of text)
   pub cut : IsCut text.shape text.words text.cut
   pub most : text.bytes ≤ length bytes
-  pub least : FRONT_BYTES ≤ text.bytes
+  pub least : HEADER_BYTES ≤ text.bytes
   pub begins : bytes ≡ trace_text (closed_tree_of text) ++ drop text.bytes bytes

@@ -10,13 +10,13 @@ abbrev pub AreWords : List ℕ → Type 0
 AreWords words = (i : ℕ) → slice_index words i < 2 ^ 64
 
 -- a tree as a text tells it: the shape is one that can be searched, the words are 64-bit numbers
--- and as many as the shape has, those in front of the block area are written, and those that are
--- not written are 0
+-- and as many as the shape has, those before the block area are written, and those that are not
+-- written are 0
 pub record IsReadTree (tree : ClosedTree) : Type 0 where
   pub shape : IsSetting tree.shape
   pub words : AreWords tree.words
   pub long : length tree.words ≡ end_of tree.shape
-  pub front : area_at tree.shape ≤ written_count tree.words
+  pub area : area_at tree.shape ≤ written_count tree.words
   pub rest : (i : ℕ) → written_count tree.words ≤ i → slice_index tree.words i ≡ 0
 
 -- the bytes are the text of a tree that is read from them and is closed: it has the shape of the

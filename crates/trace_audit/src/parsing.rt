@@ -3,7 +3,7 @@
 ghost use Rattle.std.specs.Prelude.{◌≡◌, ℕ, ◌+◌, ◌*◌, ◌<◌, ◌≤◌, ◌^◌, MatchOption};
 ghost use Rattle.std.specs.Prelude.{length, slice_index, take, drop};
 ghost use Rattle.std.specs.Int.{w64, to_le_bytes};
-ghost use Rattle.trace_audit.specs.Texts.{AreFields, IsFront, IsText, LacksFields, MayFollow};
+ghost use Rattle.trace_audit.specs.Texts.{AreFields, IsHeader, IsText, LacksFields, MayFollow};
 ghost use Rattle.trace_audit.specs.Texts.{BeginsWithNoTree, StandAt};
 ghost use Rattle.tree_words.specs.Areas.{with_area};
 ghost use Rattle.tree_words.specs.Words.{area_at, end_of};
@@ -17,7 +17,7 @@ use tree_words::layout::NEXT_AT;
 use tree_words::{LEAST_WORDS, Shape};
 
 /// The name of a text and its fields have so many bytes.
-const FRONT_BYTES: usize = WORD_BYTES + WORD_BYTES * FIELDS;
+const HEADER_BYTES: usize = WORD_BYTES + WORD_BYTES * FIELDS;
 
 /// What is read from a text: the shape that it tells, and how many bytes it has. Also the same
 /// shape with an area that ends behind the written words, and the words up to there, so that no
@@ -48,7 +48,7 @@ fn read_words(bytes: &[u8], at: usize, words: &mut [u64], count: usize)
 fn fields_in(bytes: &[u8]) -> Option<[u64; FIELDS]>
     ensures { MatchOption result (LacksFields bytes.now) (AreFields bytes.now) }
 {
-    if bytes.len() < FRONT_BYTES {
+    if bytes.len() < HEADER_BYTES {
         return None;
     }
     if !bytes.starts_with(b"HEXTREE1") {
@@ -77,15 +77,15 @@ fn count_in(shape: &Shape, field: u64, bytes: usize) -> Option<usize>
 
 // What the name and the fields of a text tell: its shape, and how many words follow.
 #[derive(Clone, Copy, Debug)]
-struct Front {
+struct Header {
     shape: Shape,
     count: usize,
 }
 
 // What name and fields of the text tell that the bytes begin with; `None` if they begin with none.
-fn read_front(bytes: &[u8]) -> Option<Front>
+fn read_header(bytes: &[u8]) -> Option<Header>
     ensures { MatchOption result (BeginsWithNoTree bytes.now)
-        (λ front. IsFront bytes.now front.shape front.count) }
+        (λ header. IsHeader bytes.now header.shape header.count) }
 {
     let Some(fields) = fields_in(bytes) else {
         return None;
@@ -95,10 +95,10 @@ fn read_front(bytes: &[u8]) -> Option<Front>
     };
     // Brings what the type keeps into scope.
     let _board = shape.board();
-    let Some(count) = count_in(&shape, fields[COUNT_FIELD], bytes.len() - FRONT_BYTES) else {
+    let Some(count) = count_in(&shape, fields[COUNT_FIELD], bytes.len() - HEADER_BYTES) else {
         return None;
     };
-    Some(Front { shape, count })
+    Some(Header { shape, count })
 }
 
 // The shape with an area that ends behind so many words of the tree, or is the least one.
@@ -119,19 +119,19 @@ fn cut_at(shape: &Shape, count: usize) -> Shape
 pub(crate) fn read_text<'a>(bytes: &'a [u8]) -> Option<Text<'a>>
     ensures { MatchOption result (BeginsWithNoTree bytes.now) (IsText bytes.now) }
 {
-    let Some(front) = read_front(bytes) else {
+    let Some(header) = read_header(bytes) else {
         return None;
     };
     // Brings what the type keeps into scope.
-    let _board = front.shape.board();
-    let cut = cut_at(&front.shape, front.count);
-    let end = FRONT_BYTES + WORD_BYTES * front.count;
-    let words = Words::of(&bytes[FRONT_BYTES..end], cut.total() as usize);
-    if words.at(NEXT_AT).min(u64::from(front.shape.total())) != front.count as u64 {
+    let _board = header.shape.board();
+    let cut = cut_at(&header.shape, header.count);
+    let end = HEADER_BYTES + WORD_BYTES * header.count;
+    let words = Words::of(&bytes[HEADER_BYTES..end], cut.total() as usize);
+    if words.at(NEXT_AT).min(u64::from(header.shape.total())) != header.count as u64 {
         return None;
     }
     Some(Text {
-        shape: front.shape,
+        shape: header.shape,
         cut,
         words,
         bytes: end,

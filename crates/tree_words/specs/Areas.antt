@@ -12,8 +12,8 @@ pub record IsNarrower (c s : Setting) : Type 0 where
   pub area : c ≡ with_area s c.knobs.words
   pub less : c.knobs.words ≤ s.knobs.words
 
--- The shape c is that of s with an area that may end earlier, but not before all words are in front
--- of its end that are written, and these words are those up to there.
+-- The shape c is that of s with an area that may end earlier, but not before the last word that
+-- is written, and these words are those up to there.
 pub record IsCut (s : Setting) (words : List ℕ) (c : Setting) : Type 0 where
   pub area : c ≡ with_area s c.knobs.words
   pub long : length words ≡ end_of c
@@ -24,7 +24,7 @@ pub record IsCut (s : Setting) (words : List ℕ) (c : Setting) : Type 0 where
 abbrev pub all_words : Setting → List ℕ → List ℕ
 all_words s words = words ++ replicate (end_of s - length words) 0
 
--- these are first words of a tree of this shape: those in front of the block area, and all that are
+-- these are first words of a tree of this shape: those before the block area, and all that are
 -- written
 pub record AreFirst (s : Setting) (words : List ℕ) : Type 0 where
   pub least : area_at s ≤ length words

@@ -7,6 +7,7 @@ use Rattle.std.specs.Option.{ok_or, option_and_then, option_map}
 use Rattle.std.specs.Str.{bytes_eq}
 use Rattle.hex_cells.specs.declared.colours.Colour.{Colour}
 use Rattle.hex_cells.specs.declared.colours.Colour.TheVariants.{Black, White}
+use Rattle.hex_cells.specs.declared.board_size.TheConstants.Size.{MAX}
 use Rattle.conn_store.specs.declared.entries.Kind.{Kind}
 use Rattle.win_cert.specs.Named.{after_word, alone, set_named, first_number, statement_named}
 use Rattle.win_cert.specs.Words.{is_line_feed, is_space_byte}
@@ -64,7 +65,7 @@ abbrev pub version_in : List (List ℕ) → Option ℕ
 version_in words = number_after (codes "hexcert") FIRST_VERSION LATEST_VERSION words
 
 abbrev pub size_in : List (List ℕ) → Option ℕ
-size_in words = number_after (codes "size") 1 11 words
+size_in words = number_after (codes "size") 1 MAX words
 
 abbrev pub first_colour : List (List ℕ) → Option Colour
 first_colour [] = None

@@ -1,6 +1,7 @@
 -- What the law of lines says: which rule of connection a line without a reason against it stands
 -- for.
 use Rattle.std.specs.Prelude.{◌≡◌, ℕ, ◌≤◌, ◌↔◌, List, [], ◌∷◌, Some, None, All, map}
+use Rattle.hex_cells.specs.declared.board_size.TheConstants.Size.{MAX}
 use Rattle.hex_board.specs.Elements.{PlayerBoard}
 use Rattle.conn_store.specs.Entries.{IsValid}
 use Rattle.conn_store.specs.Rules.{AndRule, IsCell, IsGroup, OrRule}
@@ -14,7 +15,7 @@ use Rattle.win_cert.specs.declared.lines.Line.{Line}
 -- the numbers are those of earlier lines that gave these entries in the line's scope, each a valid
 -- one
 pub record AreNamed (c : Context) (numbers : List ℕ) (entries : List Entry) : Type 0 where
-  pub size : c.base.board.size ≤ 11
+  pub size : c.base.board.size ≤ MAX
   pub at : map (entry_at c) numbers ≡ map (λ (a : Entry). Some (scoped c.scope a)) entries
   pub valid : All (IsValid (elements_at c)) entries
 

@@ -2,7 +2,7 @@ use Rattle.std.proofs.Common.{refl}
 use Rattle.trace_audit.specs.Traces.{fields_of, written_count}
 use Rattle.trace_audit.proofs.TextTree.{begins_front}
 use Rattle.trace_audit.proofs.TextWords.{count_fits, front_read, tree_told}
-use Rattle.trace_audit.proofs.parsing.read_front.Goals as goal
+use Rattle.trace_audit.proofs.parsing.read_header.Goals as goal
 
 pub returns-in_default : goal.returns-in_default
 returns-in_default c = λ t b. c.in_default.ensures (fields_of t.shape (written_count t.words)) refl
