@@ -16,11 +16,11 @@
 //! or, faster, makes a [`Parent`] for the block, keeps the best score and a bar beside it, and asks
 //! [`Parent::is_low`] of each later child, and [`Parent::score`] of those that are not low.
 //!
-//! **What is proved.** [`level`], [`root`], [`score`] and [`Parent::score`] give exactly the numbers
-//! of `specs/Scores.antt`. A child of which [`Parent::is_low`] holds has no score above the bar, and
-//! [`better`] is exactly its word in `specs/Choice.antt`. The law [`going_through_gives_choice`] says
-//! that the child kept at the end is Choice. Floats are only guesses: a guess is taken if its square
-//! shows that it is right.
+//! **What is proved.** [`level`], [`root`], [`score`] and [`Parent::score`] give exactly the
+//! numbers of `specs/Scores.antt`. A child of which [`Parent::is_low`] holds has no score above the
+//! bar, and [`better`] is exactly its word in `specs/Choice.antt`. The law
+//! [`going_through_gives_choice`] says that the child kept at the end is Choice. Floats are only
+//! guesses: a guess is taken if its square shows that it is right.
 //!
 //! **What is only tested, or not said.** That scores choose well, and how long a call takes.
 //!
