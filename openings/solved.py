@@ -4,14 +4,15 @@ from openings import positions, vertex
 
 HEAD = """# Openings solved
 
-`openings/draw.py` writes this page from openings/measured.tsv, to which `openings/find.py` adds a row for each opening \
-that `hexd solve` solves with a budget of 10,000,000. An opening and its half turn have a row each; of 7 by 7 only those \
-are here that were tried anew. Each certificate was \
-accepted by `hexd check` and by tools/second_checker.py. The seconds are processor time of one thread, on a machine that \
-was busy with other work, which makes a run up to a third longer. MB is the most memory that was seen \
-by a look twenty times a second; a run that was too short for one has none. No test compares seconds or MB. The positions \
-are those that the search entered, which is the least budget with which `hexd solve` wins. The answer doesn't tell it, \
-so `openings/positions.py` looks for it, which takes ten times as long as the rest: a row without it was not tried.
+`openings/draw.py` writes this page from openings/measured.tsv. There `openings/find.py` adds a row for each opening \
+that `hexd solve` solves with a budget of 10,000,000; an opening and its half turn have a row each. Of 7 by 7 only those \
+are here that were tried anew. `hexd check` and tools/second_checker.py accepted each certificate.
+
+Seconds are processor time of one thread, on a machine that was busy with other work, which makes a run up to a third \
+longer. MB is the most memory that was seen by a look twenty times a second; a run that was too short for one has none. \
+No test compares seconds or MB. Positions are those that the search entered: the least budget with which `hexd solve` \
+wins. No answer has this number, so `openings/positions.py` searches for it, which takes ten times as long as the rest; \
+a row without it was not tried.
 
 openings/README.md says how to make them anew.
 
