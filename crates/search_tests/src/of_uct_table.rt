@@ -79,8 +79,7 @@ fn scores(rt: HostRuntime) {
         assert!(rt; a <= 1_048_576 && b <= 1_048_576);
         assert_eq!(rt; score(p, v, w, a, b, c), want, "at {p} {v} {w} {a} {b} {c}");
         let parent = Parent::of(p, c);
-        assert_eq!(rt; parent.score_above(want, v, w, a, b), None);
-        assert_eq!(rt; parent.score_above(want - 1, v, w, a, b), Some(want));
+        assert_eq!(rt; parent.score(v, w, a, b), want);
         if let below @ ..=MOST_BAR = want - 1 {
             assert!(rt; !parent.is_low(below, v, w, a, b));
         }

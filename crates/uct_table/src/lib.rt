@@ -13,16 +13,14 @@
 //! if better(p, kept.v, kept.w, kept.a, kept.b, next.v, next.w, next.a, next.b, c) { kept = next; }
 //! ```
 //!
-//! or, faster, makes a [`Parent`] for the block, keeps the best score as well, and asks
-//! [`Parent::score_above`] of each later child, or, with a bar kept beside the score,
-//! [`Parent::is_low`] of each and [`Parent::score`] of those that are not low.
+//! or, faster, makes a [`Parent`] for the block, keeps the best score and a bar beside it, and asks
+//! [`Parent::is_low`] of each later child, and [`Parent::score`] of those that are not low.
 //!
-//! **What is proved.** [`level`], [`root`] and [`score`] give exactly the numbers of
-//! `specs/Scores.antt`, and [`Parent::score_above`] is such a score exactly if it is greater. A
-//! child of which [`Parent::is_low`] holds has no score above the bar, and [`better`] is exactly
-//! its word in `specs/Choice.antt`. The law [`going_through_gives_choice`] says that the child kept
-//! at the end is Choice. Floats are only guesses: a guess is taken if its square shows that it is
-//! right.
+//! **What is proved.** [`level`], [`root`], [`score`] and [`Parent::score`] give exactly the
+//! numbers of `specs/Scores.antt`. A child of which [`Parent::is_low`] holds has no score above the
+//! bar, and [`better`] is exactly its word in `specs/Choice.antt`. The law
+//! [`going_through_gives_choice`] says that the child kept at the end is Choice. Floats are only
+//! guesses: a guess is taken if its square shows that it is right.
 //!
 //! **What is only tested, or not said.** That scores choose well, and how long a call takes.
 //!

@@ -1,6 +1,6 @@
 //! Scores of the children of one block, which have a parent and a weight in common.
 
-ghost use Rattle.std.specs.Prelude.{◌≡◌, ◌+◌, ◌*◌, ◌<◌, ◌≤◌, IfSome, IsTrue, None};
+ghost use Rattle.std.specs.Prelude.{◌≡◌, ◌+◌, ◌*◌, ◌<◌, ◌≤◌, IsTrue};
 ghost use Rattle.uct_table.specs.Scores.{bonus_of, score_of};
 
 use super::reciprocal_roots::{TABLED_VISITS, reciprocal_root};
@@ -91,25 +91,6 @@ impl Parent {
         ensures { result ≡ score_of self.now.visits v w a b self.now.weight }
     {
         score(self.visits, v, w, a, b, self.weight)
-    }
-
-    /// The score of a child if it is above `kept`. Counts are from 0 to 1,048,576, and v is at
-    /// least 1.
-    #[inline(always)]
-    pub fn score_above(&self, kept: u64, v: u32, w: u32, a: u32, b: u32) -> Option<u64>
-        requires visited { 1 ≤ v }
-        requires counts { (v ≤ MOST_COUNT) × (w ≤ MOST_COUNT)
-            × (a ≤ MOST_COUNT) × (b ≤ MOST_COUNT) }
-        ensures above { IfSome result (λ score.
-            (score ≡ score_of self.now.visits v w a b self.now.weight) × (kept < score)) }
-        ensures not_above { result ≡ None →
-            score_of self.now.visits v w a b self.now.weight ≤ kept }
-    {
-        if self.is_low(kept.min(MOST_BAR), v, w, a, b) {
-            return None;
-        }
-        let score = self.score(v, w, a, b);
-        if kept < score { Some(score) } else { None }
     }
 
     // No less than the bonus of v visits: that of v quartered until the table has it, halved as
