@@ -1,8 +1,8 @@
 -- How to read the proof of `arena_rule::steps`, `runs`, `closes`: a step that fits keeps the arena
 -- rule.
--- 1. What is claimed: src/laws.rt; docs/change/TREE.md tells it in words. specs/Views.antt (what is
---    known of a seat), Lookups and Adds (what its blocks tell), Fits (which steps it may make),
---    Afters (what a step does), Answers (what it may be answered).
+-- 1. What is claimed: src/laws.rt; docs/change/TREE.md has the gist in words. specs/Views.antt
+--    (what is known of a seat), Lookups and Adds (what its blocks tell), Fits (which steps it may
+--    make), Afters (what a step does), Answers (what it may be answered).
 -- 2. The rule: specs/Parts.antt, Bounds.antt, Rule.antt (`IsState`, `Rule`), Runs.antt (a run of
 --    events), Closed.antt and Shown.antt.
 -- 3. The state before a step, and the form of the law of each part: proofs/Before (`blocks_after`:

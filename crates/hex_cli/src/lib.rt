@@ -64,9 +64,9 @@
 //!   and `threats` are clauses of their own for the same reason. Each clause of mode `htp` but
 //!   `determined` says of a list of loads and turns that the session used up just this (`PlaysBy`).
 //!   An archive that tells fixes the turns; one that doesn't leaves each clause its own list.
-//! - The mover of mode `solve` is the other of who made the last step, and Black before any. The
-//!   count of stones doesn't tell him: a record may set stones up, a swap changes no count, and a
-//!   player may move twice. A decided board is answered by `over`. What is said of a position is
+//! - The mover of mode `solve` is the player who didn't make the last step, and Black before any.
+//!   The count of stones doesn't tell him: a record may set stones up, a swap changes no count, and
+//!   a player may move twice. A decided board is answered by `over`. What is said of a position is
 //!   any answer that meets the solver's clauses (`IsSolved`), so it names no order of the search.
 //! - A body that goes on after a fault and answers that fault's status at the end meets the clauses
 //!   on counts, which say that a count rose and not how often. The test `faults_each` of

@@ -55,7 +55,7 @@ fn game_text(alloc: Global, hsearch: bool, budget: u64, game: &Game) -> Result<V
     text_of(alloc, &solved)
 }
 
-// The player to place after these steps: the other of who made the last, and Black before any.
+// The player to place after these steps: who didn't make the last, and Black before any.
 fn next_to_place(steps: &[Step]) -> Colour
     ensures { result ≡ next_mover steps.now }
 {

@@ -87,9 +87,9 @@ impl Engine {
     /// Answers one request. After an error nothing changed here, and no turn was taken; a file may
     /// have been fetched.
     ///
-    /// `read fault` comes only if the shelf counted a fault, and `cannot load file` exactly if the
-    /// fetched file is none, too long, or no record of a game (SGF FF[4], GM[11]). `Archive` comes
-    /// only if the archive counted a fault. With every other answer the counts are as before.
+    /// `read fault` comes only if the file store counted a fault, and `cannot load file` exactly if
+    /// the fetched file is none, too long, or no record of a game (SGF FF[4], GM[11]). `Archive`
+    /// comes only if the archive counted a fault. With every other answer the counts are as before.
     ///
     /// The answer to a `genmove` or a `loadsgf` is brief: a vertex, nothing, or the message of a
     /// failure. So a caller that has room for such an answer before it asks can give the answer of

@@ -73,8 +73,8 @@ impl Shelf for MemShelf {
 }
 
 impl MemShelf {
-    /// A shelf of these files, the first of a name counting. The fetches whose numbers stand in
-    /// `bad` are at fault.
+    /// A file store of these files, the first of a name counting. The fetches whose numbers stand
+    /// in `bad` fail.
     pub fn make(alloc: Global, files: Vec<File>, bad: Vec<u32>) -> Result<MemShelf, Memory>
         ensures { IfOk result (λ shelf. shelf ≡ new_shelf files.items bad.items) }
     {

@@ -31,7 +31,7 @@ impl Word {
         Word { text }
     }
 
-    /// The words of the process after the program's name; none if one of them is no text. What they
+    /// The arguments of the process, in order; none if one of them is no text. What they
     /// are is the caller's affair, so no clause says it.
     pub fn all(rt: &HostRuntime) -> Result<Option<Vec<Word>>, Memory> {
         let arguments = match env::args(rt) {

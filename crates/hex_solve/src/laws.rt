@@ -6,7 +6,7 @@ ghost use Rattle.hex_board.specs.Positions.{Position};
 ghost use Rattle.hex_board.specs.Wins.{Wins, empty_count};
 ghost use Rattle.hex_solve.specs.Deciding.{bound, first, need};
 
-/// A law, with nothing to run: the player who is told by trying each move wins.
+/// A law, with nothing to run: the player whom the search of each move calls the winner wins.
 pub fn first_implies_wins()
     ensures { (p : Position) (mover player : Colour) → first p mover ≡ Some player
         → Wins player p mover }

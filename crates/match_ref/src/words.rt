@@ -28,7 +28,7 @@ pub struct MatchWords {
     pub records: bool,
 }
 
-/// The match that the words ask for; none exactly if they ask for none.
+/// The match that the arguments ask for; none exactly if they ask for none.
 pub fn read_match_words(alloc: Global, words: &[Word]) -> Result<Option<MatchWords>, Memory>
     ensures exact { IfOk result
         (λ r. (w : MatchWords) → (r ≡ Some w) ↔ AskFor words.now w) }

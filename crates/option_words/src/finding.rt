@@ -16,9 +16,9 @@ use clap::error::ErrorKind;
 use clap::{ArgMatches, Command, Error};
 use hex_io::Word;
 
-/// What the words say by the command. If something is found, they are a line of its form, and the
-/// value of each name is what the line says, or the default. If nothing is, they are no line of it,
-/// or one whose positional word is a hyphen alone.
+/// What the arguments say by the command. If something is found, they are a line of its form, and
+/// the value of each name is what the line says, or the default. If nothing is, they are no line of
+/// it, or one whose positional word is a hyphen alone.
 pub fn find<'a>(command: Command<'a>, words: &'a [Word]) -> Result<Option<ArgMatches<'a>>, Memory>
     ensures { IfOk result (FindsByForm (app_of command.entry) words.now) }
 {

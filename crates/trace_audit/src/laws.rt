@@ -8,8 +8,8 @@ ghost use Rattle.trace_audit.specs.Traces.{trace_text};
 ghost use Rattle.trace_audit.specs.Verdicts.{AreTexts, AreTrees, IsClosedTree, IsVerdictOn};
 ghost use Rattle.trace_audit.specs.declared.types.Audit.{Audit};
 
-/// The law of traces: the text of a closed tree tells a closed tree. Its shape is that of the tree,
-/// and its words are those below NEXT, the others being 0. It does nothing.
+/// The law of traces: what is read from the text of a closed tree is a closed tree. Its shape is
+/// that of the tree, and its words are those below NEXT, the others being 0. It does nothing.
 pub fn traces_tell_closed_trees()
     ensures { (tree : ClosedTree) → IsClosedTree tree → TellsClosed tree (trace_text tree) }
 {}

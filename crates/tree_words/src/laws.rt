@@ -18,9 +18,9 @@ pub fn opening_words_are_told()
         → ShowRootBlock s words }
 {}
 
-/// The law of told blocks: who knows some of the linked blocks knows the boards of their nodes. If
-/// the link of such a node is not 0, the block told by the link and the node's board is the linked
-/// one. It does nothing.
+/// The law of known blocks: who knows some of the linked blocks knows the boards of their nodes. If
+/// the link of such a node is not 0, it and the node's board determine the linked block. It does
+/// nothing.
 pub fn told_blocks_are_linked()
     ensures nodes { (s : Setting) (words : List ℕ) (blocks : List LinkedBlock)
         → Linked s words blocks → TellsNodes s blocks }

@@ -165,7 +165,7 @@ fn faults_each(rt: HostRuntime) -> Result<(), Fail> {
     check_writes(&rt, "check", &input, b"yes semi\n")
 }
 
-/// Rooms of an archive, words, inputs, statuses and outputs. Where there is no room for a turn, no
+/// Rooms of an archive, words, inputs, statuses and outputs. If there is no room for a turn, no
 /// read follows and no write.
 static ROOMS: &str = "\
 0|htp --hsearch off --playouts 1|name~genmove b~name~|7|= hexd~~

@@ -14,7 +14,7 @@ const TEAMS: [(&str, &[u8]); 2] = [
 ];
 
 /// `gate-counts`: three workers with a walk each meet at the gate, and each passes it once by its
-/// own number, before its first add alone. Where one playout is all, who has no walk does not pass.
+/// own number, before its first add alone. If one playout is all, who has no walk doesn't pass.
 #[test]
 fn gate_counts(rt: HostRuntime) -> Result<(), Fail> {
     for (words, input) in TEAMS {
