@@ -3,8 +3,8 @@
 
     printf 'genmove b\\nwincert\\n' | bin/hexd htp --size 2 | examples/keep_certificates.py [FOLDER]
 
-The files are FOLDER/1.cert, 2.cert and so on, in the folder where one is without a word; none that is there is written over.
-Each is named on standard output, with what `hexd check` says of it. It ends with 1 where one is refused or can't be written.
+The files are FOLDER/1.cert, 2.cert and so on, by default in the current folder; none that is there is written over.
+Each is named on standard output, with what `hexd check` says of it. It ends with 1 if one is refused or can't be written.
 """
 
 import sys
@@ -15,7 +15,7 @@ from hexd import EngineEnded, check
 
 
 def answers_of(lines):
-    """The text of each answer that is a success: what stands behind `=`, the id and a space, up to the empty line."""
+    """The text of each answer that is a success: what stands after `=`, the id and a space, up to the empty line."""
     answer = []
     for line in lines:
         if line != "\n":

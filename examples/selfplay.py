@@ -3,13 +3,13 @@
 
     examples/selfplay.py [SIZE [PLAYOUTS [MOVES [FOLDER [WORD..]]]]]
 
-The size is 11 and the playouts are 10,000 where they aren't said. It plays to the end of the first game, or game after
-game in one session until so many MOVES were made. After each `genmove` it asks `wincert`: where the move was certified,
+The size is 11 and the playouts are 10,000 if they aren't said. It plays to the end of the first game, or game after
+game in one session until so many MOVES were made. After each `genmove` it asks `wincert`: if the move was certified,
 the certificate is kept in FOLDER, or in one that is thrown away, and `bin/hexd check` has to say yes of it, for this
 board and this player. Further words go to hexd, as `--hsearch off`.
 
 It prints each move, and then on standard error how many moves and certificates there were, how long a move took, and the
-memory that the session held after its first move and after its last. It ends with 1 where a certificate is refused.
+memory that the session held after its first move and after its last. It ends with 1 if a certificate is refused.
 """
 
 import argparse
@@ -62,7 +62,7 @@ class Games:
         self.seconds, self.certified, self.memory = [], 0, []
 
     def move(self, colour):
-        """Makes a move; False where its certificate is refused."""
+        """Makes a move; False if its certificate is refused."""
         stones = stones_of(self.engine.ask("showboard").text)
         begun = time.monotonic()
         move = self.engine.ask(f"genmove {colour}")
@@ -85,7 +85,7 @@ class Games:
         return fault is None
 
     def play(self):
-        """Plays a game to its end; False where a move fails."""
+        """Plays a game to its end; False if a move fails."""
         self.engine.ask("clear_board")
         turn = 0
         while self.engine.ask("winner").text == "none":

@@ -5,7 +5,7 @@
 
 The claim of the certificate, its last line, names a line. If the player to move wins (`semi`), that line is a `move`,
 which has the cell, or a `key` of two lines, and the cell is the empty one in which these two meet: his stone there
-leaves the other player no answer. If the other player wins (`full`), no move wins, and the status is 1, as it is where
+leaves the other player no answer. If the other player wins (`full`), no move wins, and the status is 1, as it is if
 the answer has no certificate; a line on standard error says which.
 
 The theorem on the certificate says that the player wins with himself to move, and names no cell."""

@@ -22,7 +22,7 @@ plist/Mustplay cells/mustplay-cells
 string/Search report/search-report
 string/Mustplay/mustplay
 string/Certificate/wincert"""
-# The numbers behind each word of kgs-time_settings.
+# How many numbers follow each word of kgs-time_settings.
 KGS_NUMBERS = {b"none": 0, b"absolute": 1, b"byoyomi": 3, b"canadian": 3}
 
 
@@ -45,7 +45,7 @@ def needs_forms(args, *forms):
 
 
 class Session:
-    """hexd, and who has resigned. Each command answers the text of its success, or None where the line is hexd's."""
+    """hexd, and who has resigned. Each command answers the text of its success, or None if the line is hexd's."""
 
     def __init__(self, words):
         self.words, self.hexd = words, Engine(words)
@@ -192,7 +192,7 @@ class Session:
         return WINS[winner]
 
     def all_legal_moves(self, request):
-        """The empty cells in rising order, and the swap where White may."""
+        """The empty cells in rising order, and the swap if White may."""
         needs(not request.args or len(request.args) == 1 and is_colour(request.args[0]))
         if self.is_over():
             return b""

@@ -11,7 +11,7 @@ class Refused(Exception):
 
 
 class Request:
-    """What a line asks: its id or nothing, the command's name or nothing, and what stands behind the name."""
+    """What a line asks: its id or nothing, the command's name or nothing, and what stands after the name."""
 
     def __init__(self, number, name, rest):
         self.number, self.name, self.rest = number, name, rest

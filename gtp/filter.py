@@ -4,8 +4,8 @@
     bin/hexd-gtp [WORD..]
 
 It runs `bin/hexd htp WORD..` and hands it each line as it came, but for the commands of gtp/commands.py: these it
-answers itself, by what hexd answers. It ends when hexd does, with hexd's status, and else with 3 where its input can't be
-read and 4 where its output can't be written.
+answers itself, by what hexd answers. It ends when hexd does, with hexd's status, and else with 3 if its input can't be
+read and 4 if its output can't be written.
 """
 
 import os
@@ -24,7 +24,7 @@ LONGEST_LINE = 4096
 LARGEST_ID = 2**31 - 1
 # The bytes that hexd drops from a line: all control bytes but the tab.
 CONTROL = bytes(byte for byte in (*range(32), 127) if byte != 9)
-# Where these succeed the game goes on, and no player has resigned.
+# If one of these succeeds, the game goes on, and no player has resigned.
 CHANGES = (b"boardsize", b"clear_board", b"genmove", b"loadsgf", b"play")
 READ_FAULT, WRITE_FAULT = 3, 4
 
@@ -38,7 +38,7 @@ class WriteFault(Exception):
 
 
 def read_request(line):
-    """What a line asks, as hexd reads it; none where hexd answers nothing."""
+    """What a line asks, as hexd reads it; none if hexd answers nothing."""
     text = line.translate(None, CONTROL).partition(b"#")[0].replace(b"\t", b" ").strip()
     name, _, rest = text.partition(b" ")
     number = b""

@@ -1,6 +1,6 @@
 #!/usr/bin/env python3
 """bin/hexd-gtp over the built program: what it answers itself, sessions that have to be the same without it, and how it
-ends. It says nothing where all is as it has to be."""
+ends. It says nothing if all is as it has to be."""
 
 import os
 import re
@@ -171,7 +171,7 @@ def seed_fault():
 
 
 def trace_fault():
-    """Whether traces stay where a new hexd would empty their file."""
+    """Whether traces stay when a new hexd would empty their file."""
     with tempfile.TemporaryDirectory() as folder:
         words = SMALL + ["--trace", f"{folder}/t"]
         _, got, _ = run(WITH, words, b"set_random_seed 9\nname\n")
@@ -222,7 +222,7 @@ def ending_faults():
     process.stdin.flush()
     got, errors = process.communicate(timeout=LIMIT)
     if (process.returncode, got, errors) != (5, b"= \n\n", b"hexd: out of memory\n"):
-        yield f"want of memory: status {process.returncode}, {got}, {errors}"
+        yield f"out of memory: status {process.returncode}, {got}, {errors}"
     process, _ = start(SMALL)
     process.stdout.close()
     process.stdin.write(b"showboard\n")

@@ -3,10 +3,10 @@
 docs/use/SOLVED.md, with what `hexd solve` took for openings, if there is measured.tsv, which it puts in order.
 
     openings/draw.py            writes them anew
-    openings/draw.py --check    says nothing where they are as they would be written, and else ends with 1
+    openings/draw.py --check    says nothing if they are as they would be written, and else ends with 1
 
 The list is openings.tsv: each opening, who wins, by which kind of claim, the cell by which White answers and wins (`-`
-where Black wins), and the number of the certificate's lines.
+if Black wins), and the number of the certificate's lines.
 
 A board is pictures/SIZE.svg. Each cell is an opening, and has the colour of the player who wins after it, black or
 white; a cell for which there is no certificate is grey and has a question mark. The pictures have a ground of their

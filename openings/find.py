@@ -156,7 +156,7 @@ def main():
         print(f"openings/find.py: {options.out} can't be written: {fault.strerror}", file=sys.stderr)
         return 1
     try:
-        check(b"")  # Where it has to be built.
+        check(b"")  # Builds hexd if it has to be built.
         return 1 if find_all(openings, options) else 0
     except (OSError, EngineEnded) as fault:
         print(f"openings/find.py: {fault}", file=sys.stderr)

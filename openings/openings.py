@@ -1,7 +1,7 @@
 """Openings of Hex: their cells, their names, which of them a size has to have, and the files of certificates.
 
 An opening is Black's first stone on an empty board; White moves next. Its name is the size, a hyphen and the vertex,
-as `6-a3`, and its certificate is the file of this name with `.cert.xz` behind it. A half turn of the board takes an
+as `6-a3`, and its certificate is the file of this name with `.cert.xz` after it. A half turn of the board takes an
 opening to another one with the same winner, so of such two the one with the lesser cell number stands for both.
 """
 
@@ -70,7 +70,7 @@ def openings_of(size, whole=False):
 
 
 def head_of(opening, winner):
-    """The first lines of the opening's certificate for this winner, behind the one with the version."""
+    """The first lines of the opening's certificate for this winner, after the one with the version."""
     return [f"size {opening.size}", f"player {winner}", f"black {vertex(*opening)}", "white"]
 
 
@@ -119,7 +119,7 @@ def can_unpack():
 
 
 def text_of(path):
-    """The bytes of a certificate, unpacked where the file is compressed."""
+    """The bytes of a certificate, unpacked if the file is compressed."""
     if path.suffix != ".xz":
         return path.read_bytes()
     import lzma

@@ -1,5 +1,5 @@
 #!/usr/bin/env python3
-"""What the checkers have to refuse, and find.py has to find: openings/test.py says nothing where they do.
+"""What the checkers have to refuse, and find.py has to find: openings/test.py says nothing if they do.
 
 Of each certificate of sizes 3 to 5, these are refused by `hexd check` and by tools/second_checker.py alike: two lines
 swapped of which one names the other, the other player, the other claim, and the last derivation line cut off; of those
@@ -9,7 +9,7 @@ find.py makes size 3 anew, openings/check accepts what it makes, and a second st
 that is too small leaves an opening open; after Ctrl-C there is no part of a file. The rows that it adds are those that
 the page docs/use/SOLVED.md is made of. positions.py comes to the same number from any other.
 
-HEXD names the program; where it isn't set that is bin/hexd.
+HEXD names the program; if it isn't set that is bin/hexd.
 """
 
 import os
@@ -70,7 +70,7 @@ def swapped(lines):
 
 
 def wrong_certificates(opening, winner, lines):
-    """Each with what is wrong of it. The lines are those of the text, with nothing behind the last."""
+    """Each with what is wrong of it. The lines are those of the text, with nothing after the last."""
     other = "white" if winner == "black" else "black"
     kind, entry = lines[-1].split(" ")
     yield "two lines swapped", swapped(lines)
@@ -97,7 +97,7 @@ def openings_check(*words, folder=FOLDER):
 
 
 def expect_other_names(folder):
-    """Each certificate of size 3 is refused under each other name, even where the same player wins that opening."""
+    """Each certificate of size 3 is refused under each other name, even if the same player wins that opening."""
     small = [opening for opening in listed() if opening.size == 3]
     for opening in small:
         place = folder / str(opening)
@@ -135,7 +135,7 @@ def expect_whole_files(folder):
 
 
 def expect_other_statuses():
-    """What can't be checked at all is told from what is refused, in one line."""
+    """What can't be checked at all is distinguished from what is refused, in one line."""
     for words, program, status in ((["9"], None, 2), (["3"], "/dev/null", 3), (["3"], "/bin/true", 3)):
         env = {**os.environ, **({"HEXD": program} if program else {})}
         done = subprocess.run([FOLDER / "check", *words], capture_output=True, text=True, env=env)

@@ -4,7 +4,7 @@ and has the traces, and changed ones, audited by `bin/hexd audit`.
 
     tools/audit_rows.py
 
-It says nothing where all is as it has to be; else it names what differs, and ends with status 1.
+It says nothing if all is as it has to be; else it names what differs, and ends with status 1.
 """
 
 import struct
@@ -84,7 +84,7 @@ def two_walks_on_one_cell(workers):
 
 
 def moved(trace, by, behind):
-    """The trace of one playout with its root's block moved by so many words, and so many claimed behind it."""
+    """The trace of one playout with its root's block moved by so many words, and so many claimed after it."""
     fields = struct.unpack_from("<15Q", trace, 8)
     tree = list(struct.unpack_from("<27Q", trace, FRONT))
     next_word = 27 + by + behind
@@ -120,8 +120,8 @@ def main():
     audit("two visits beside none, by one worker", two_walks_on_one_cell(1), b"no 0 6\n")
     audit("a root block moved by 489", moved(one, 489, 0), b"yes 1\n")
     audit("a root block moved by 100, and NEXT 516", moved(one, 100, 389), b"yes 1\n")
-    audit("NEXT 516 behind a root block at the front", moved(one, 0, 489), b"no 0 6\n")
-    # Short texts that claim the largest tree, one behind the other.
+    audit("NEXT 516 after a root block at the start", moved(one, 0, 489), b"no 0 6\n")
+    # Short texts that claim the largest tree, one after the other.
     claims = two_walks_on_one_cell(2)
     claims = claims[:96] + struct.pack("<Q", 16_777_216) + claims[104:]
     audit("many claims of a large tree", claims * 20_000, b"yes 20000\n")

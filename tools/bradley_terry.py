@@ -2,8 +2,8 @@
 
 A player of strength s beats one of strength t with probability 1 / (1 + 10^((t - s) / 400)). The strengths are those under
 which what came is most likely; the reference has 0. To each pair that met a game is added that both have won by half, so
-that strengths stay finite where one has won all games. Intervals are of 95 %, from the inverse of Fisher's information:
-they hold where games are many, and speak of chance alone.
+that strengths stay finite even if one has won all games. Intervals are of 95 %, from the inverse of Fisher's information:
+they hold if games are many, and speak of chance alone.
 """
 
 import math
@@ -75,7 +75,7 @@ def slope_and_information(players, strength, wins):
 def fit(names, wins):
     """For each name its strength and the half width of its interval, against the first name, the reference.
 
-    `wins[a, b]` is how many games a won against b. ValueError where games don't connect all names.
+    `wins[a, b]` is how many games a won against b. ValueError if games don't connect all names.
     """
     if not connected(names, wins):
         raise ValueError("not all settings are connected by matches")

@@ -1,10 +1,10 @@
 #!/usr/bin/env python3
-"""Sends `bin/hexd htp` 64 MiB of commands, the most that it takes, and compares its size before and behind.
+"""Sends `bin/hexd htp` 64 MiB of commands, the most that it takes, and compares its size before and after.
 
     tools/constant_memory.py
 
 It prints the size of the process (VmRSS) after the first 64 KiB and after the last, the answers and
-the seconds. Its status is 1 where the process grew by more than 256 KiB, an answer is missing, or
+the seconds. Its status is 1 if the process grew by more than 256 KiB, an answer is missing, or
 the session did not end well.
 """
 

@@ -42,6 +42,6 @@ def place_of(name):
 
 
 def status():
-    """Prints the faults; 1 where there is one."""
+    """Prints the faults; 1 if there is one."""
     print(*FAULTS, sep="\n", end="\n" if FAULTS else "")
     return 1 if FAULTS else 0

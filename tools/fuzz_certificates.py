@@ -3,15 +3,15 @@
 
     tools/fuzz_certificates.py [COUNT [SEED]]
 
-Both are handed the same bytes: each file of examples/certificates, each front of V1, the two long texts that
-docs/use/CERTIFICATES.md tells of, and COUNT changed certificates (3,000 where it isn't said), which SEED (1) determines. A
+Both are handed the same bytes: each file of examples/certificates, each prefix of V1, the two long texts that
+docs/use/CERTIFICATES.md describes, and COUNT changed certificates (3,000 if it isn't said), which SEED (1) determines. A
 changed one is a file of examples/certificates, or a short certificate of openings/, after one to three changes: of a
 number, a vertex, a name, the head, the order of lines, or of any byte.
 
 It prints how often each answer came, with no line numbers; a text on which the two differ is kept in a file, which is
-named. It ends with 1 where there is one, or where some number of refusal never came among 1,000 changed ones or more.
+named. It ends with 1 if there is one, or if some number of refusal never came among 1,000 changed ones or more.
 
-HEXD names the program; where it isn't set that is bin/hexd.
+HEXD names the program; if it isn't set that is bin/hexd.
 """
 
 import random
@@ -36,7 +36,7 @@ def examples():
 
 
 def shelved():
-    """The certificates of openings/ that have few lines; none where Python has no lzma."""
+    """The certificates of openings/ that have few lines; none if Python has no lzma."""
     try:
         import lzma
     except ImportError:
@@ -46,7 +46,7 @@ def shelved():
 
 
 def told_texts():
-    """What docs/use/CERTIFICATES.md tells of without a file: the fronts of V1, and texts of many lines."""
+    """What docs/use/CERTIFICATES.md describes without a file: the prefixes of V1, and texts of many lines."""
     v1 = (ROOT / "examples" / "certificates" / "v1.cert").read_bytes()
     head = b"".join(v1.splitlines(keepends=True)[:5])
     fronts = [v1[:length] for length in range(len(v1))]
@@ -126,7 +126,7 @@ def changed_texts(draw, count):
 
 
 def answer_of_hexd(text):
-    """What `hexd check` writes, where its status is the one for it."""
+    """What `hexd check` writes, if its status is the one for it."""
     given, status = run("check", given=text)
     said = given.decode()
     if status != (0 if said.startswith("yes") else 1) or not said.endswith("\n"):

@@ -1,10 +1,9 @@
 """48 probes of the habits of programs that speak GTP: what is sent, and what the standard asks for.
 
 The standard is the Go Text Protocol, version 2, draft 2, which knows no limit for the length of a line. Answers are written
-here as they come, without their two line feeds and with a semicolon between them, and with NAME where the text is the
-program's own answer to `name`. `wanted` has what the draft asks for: some answers, of which any will do, or none, where the
-draft leaves it open. Behind each probe but the last ones of an input the program is sent one more command, and has to answer
-it.
+here as they come, without their two line feeds and with a semicolon between them, and with NAME for the program's own
+answer to `name`. `wanted` has what the draft asks for: some answers, of which any will do, or none, if the draft
+leaves it open. After each probe but the last ones of an input the program is sent one more command, and has to answer it.
 """
 
 from collections.abc import Callable
@@ -16,7 +15,7 @@ ANY = "= or ? .."  # One answer, whatever it says.
 
 
 class Probe(NamedTuple):
-    """What is sent, in words and in bytes; what the draft asks for; whether the input ends behind it."""
+    """What is sent, in words and in bytes; what the draft asks for; whether the input ends after it."""
 
     about: str
     sent: bytes
@@ -53,7 +52,7 @@ CONTROL = [
     Probe("byte 1 within the name", b"na\1me\n", ("= NAME",)),
     Probe("byte 27 before the name", b"\x1bname\n", ("= NAME",)),
     Probe("byte 127 within the name", b"na\x7fme\n", ("= NAME",)),
-    Probe("vertical tab and form feed behind the name", b"name\v\f\n", ("= NAME",)),
+    Probe("vertical tab and form feed after the name", b"name\v\f\n", ("= NAME",)),
     Probe("a tab before the name", b"\tname\n", ("= NAME",)),
     Probe("a tab between id and name", b"3\tname\n", ("=3 NAME",)),
     Probe("a line of control bytes", b"\1\2\3\n", (SILENT,)),
@@ -61,16 +60,16 @@ CONTROL = [
 ]
 SPACES = [
     Probe("spaces around", b"  name  \n", ("= NAME",)),
-    Probe("spaces behind the id", b"4    name\n", ("=4 NAME",)),
-    Probe("a comment behind the name", b"name # what is it\n", ("= NAME",)),
+    Probe("spaces after the id", b"4    name\n", ("=4 NAME",)),
+    Probe("a comment after the name", b"name # what is it\n", ("= NAME",)),
     Probe("a comment without a space", b"name#\n", ("= NAME",)),
     Probe("a comment alone", b"# name\n", (SILENT,)),
     Probe("empty lines", b"\n\n\r\n   \n\t\n", (SILENT,)),
     Probe("a last line without line feed", b"name", (), True),
 ]
 LONG = [
-    Probe("1,000 spaces behind the name", b"name" + b" " * 1_000 + b"\n", ("= NAME",)),
-    Probe("5,000 spaces behind the name", b"name" + b" " * 5_000 + b"\n", ("= NAME",)),
+    Probe("1,000 spaces after the name", b"name" + b" " * 1_000 + b"\n", ("= NAME",)),
+    Probe("5,000 spaces after the name", b"name" + b" " * 5_000 + b"\n", ("= NAME",)),
     Probe("a name of 70,000 letters", b"x" * 70_000 + b"\n", (FAILURE,)),
     Probe("a comment of 1,000,000 letters", b"#" + b"x" * 1_000_000 + b"\n", (SILENT,)),
     Probe("2,000,000 letters", b"x" * 2_000_000 + b"\n", (FAILURE,)),
@@ -85,7 +84,7 @@ COMMANDS = [
     Probe("undo without a move", b"undo\n", ("? cannot undo",)),
     Probe("boardsize 1000000", b"boardsize 1000000\n", ("? unacceptable size",)),
     Probe("known_command of what is none", b"known_command no_such\n", ("= false",)),
-    Probe("commands behind quit", b"quit\nname\n", ("= ",), True),
+    Probe("commands after quit", b"quit\nname\n", ("= ",), True),
 ]
 RECORDS = [
     Record("a record that is missing", None, "none.sgf", ("? cannot load file",)),

@@ -14,7 +14,7 @@ from programs import HEXD, size_of
 
 # What a program may take of memory in address space, so that a record that hurts hurts nobody else.
 MOST_MEMORY = 6 << 30
-# What has not come by then is told as missing: far longer than any answer here takes, but where none would come.
+# What has not come by then is reported as missing: no answer that comes here takes nearly as long.
 SECONDS = 10
 # Where Debian has games, which are not on the path of root.
 PATH = os.environ["PATH"] + ":/usr/games"
@@ -24,7 +24,7 @@ class Program(NamedTuple):
     """A program, the words that start its session, and of its game: the property of a record that names it, and a move."""
 
     title: str
-    words: list | None  # None where the machine hasn't it
+    words: list | None  # None if the machine hasn't it
     game: str = "GM[1]"
     move: str = "cc"
 
@@ -32,7 +32,7 @@ class Program(NamedTuple):
 def zero_network(folder):
     """Leela Zero needs a network, of which Debian has none: this one has the fewest layers, and all weights are zero."""
     planes, points, hidden = 18, 361, 256
-    # Each convolution has weights, biases, means and variances; behind that of the policy there is one layer, behind that of
+    # Each convolution has weights, biases, means and variances; after that of the policy there is one layer, after that of
     # the value two.
     lengths = [planes * 9, 1, 1, 1]
     lengths += [2, 2, 2, 2, 2 * points * (points + 1), points + 1]
@@ -72,7 +72,7 @@ def start(program, folder, **streams):
 
 
 def converse(program, given, folder, seconds=SECONDS):
-    """What a session writes on an input, and how it ends: a status, or None where it had to be ended."""
+    """What a session writes on an input, and how it ends: a status, or None if it had to be ended."""
     process = start(program, folder, stderr=subprocess.DEVNULL)
     try:
         text, _ = process.communicate(given, timeout=seconds)

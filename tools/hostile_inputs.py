@@ -3,7 +3,7 @@
 
     tools/hostile_inputs.py KIND OUT [BYTES]
 
-Fills OUT with at most so many bytes, 67108864 where none are given. The kinds:
+Fills OUT with at most so many bytes, 67108864 if none are given. The kinds:
 
     broad   one tree on size 11, whose blocks have some hundred nodes
     small   one tree on size 3 with each position of the game: the most blocks that fit
@@ -27,7 +27,7 @@ MOST_PLAYOUTS = 1_000_000
 # Black's stones on size 11 that join his edges, so that he wins each playout.
 JOINED = sum(1 << 11 * row for row in range(11))
 
-# The words of a trace behind its name: one playout on size 2, of a tree of 16,777,216 words.
+# The words of a trace after its name: one playout on size 2, of a tree of 16,777,216 words.
 ONE_PLAYOUT = [
     2, 0, 0, 0, 0, 0, 15, 0, 1, 1, 0, 16777216, 8, 180, 27, 27, 1, 23, 0, 7, 4294967297, 0, 3, 15,
     0, 4, 0, 0, 4294967296, 4294967296, 257, 0, 0, 0, 514, 0, 0, 0, 771, 0, 0, 4294967296,
@@ -35,7 +35,7 @@ ONE_PLAYOUT = [
 
 
 def text(size, black, playouts, area, words):
-    """The bytes of a text where Black is to move and may play on every empty cell."""
+    """The bytes of a text in which Black is to move and may play on every empty cell."""
     allowed = (1 << size * size) - 1 & ~black
     fields = [size, black % 2**64, black >> 64, 0, 0, 0, allowed % 2**64, allowed >> 64]
     fields += [1, playouts, 0, area, 8, 180, len(words)]
@@ -48,7 +48,7 @@ def front(playouts):
 
 
 def put_block(words, parent, empties):
-    """Puts a block of these cells behind the words: the first words of its nodes."""
+    """Puts a block of these cells after the words: the first words of its nodes."""
     start = len(words)
     bits = sum(1 << cell for cell in empties)
     words += [parent, bits % 2**64, bits >> 64, len(empties)]
@@ -82,7 +82,7 @@ def whole(size, black, limit):
 
 
 def deep(limit):
-    """One block below another, down to the full board, where every playout ends."""
+    """One block below another, down to the full board, with which every playout ends."""
     empties = [cell for cell in range(121) if not JOINED >> cell & 1]
     least = FRONT_BYTES + 8 * (6 + 4 * len(empties) + 2 * len(empties) * (len(empties) + 1))
     playouts = max(1, min(MOST_PLAYOUTS, (limit - least) // 8))

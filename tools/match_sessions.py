@@ -2,7 +2,7 @@
 """Plays the games of a match by two sessions of `hexd htp` each, and compares their records with those of `hexmatch`.
 
 A side's session has the side's options and its seed of the game, and takes the other side's moves by `play`. It says
-nothing where the records are the same.
+nothing if the records are the same.
 """
 
 import re

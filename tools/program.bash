@@ -16,7 +16,7 @@ stop() {
 }
 
 # Chooses the program of this name, that of crates/NAME. Of its crates, lowest first, it fills needed, and below with the
-# names behind each crate's colon in crates.txt.
+# names after each crate's colon in crates.txt.
 choose() {
     local lines at crate wanted=" $1 "
     name=$1

@@ -1,6 +1,6 @@
 """The program hexd for the scripts here and in openings/: where it is, one run of it, and a session over pipes.
 
-HEXD in the environment names the program; where it isn't set that is bin/hexd, which builds it where it isn't fresh.
+HEXD in the environment names the program; if it isn't set that is bin/hexd, which builds it if it isn't fresh.
 """
 
 import os
@@ -43,7 +43,7 @@ class Hexd:
             raise HexdEnded from None
 
     def answer(self):
-        """The next answer, with the empty line that ends it; less where hexd ends within it."""
+        """The next answer, with the empty line that ends it; less if hexd ends within it."""
         lines = []
         while lines[-1:] != [b"\n"]:
             line = self.process.stdout.readline()
@@ -53,7 +53,7 @@ class Hexd:
         return b"".join(lines)
 
     def close(self):
-        """Ends the process, and waits for its status: that of a shell where a signal ended it."""
+        """Ends the process, and waits for its status: that of a shell if a signal ended it."""
         try:
             self.process.stdin.close()
         except BrokenPipeError:

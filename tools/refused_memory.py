@@ -9,13 +9,13 @@ the answers to the first lines: nothing is left out, nothing is given by half, a
 comes in place of an answer.
 
 `rt try --fail-alloc N` refuses the Nth allocation of a program, which it builds for that number.
-tools/refused_memory/program.txt is a program that makes as many allocations before the run as it
-is told to, so that one build serves for all: it is built twice, once to count the allocations of
+tools/refused_memory/program.txt is a program that makes as many allocations before the run as its
+first argument says, so that one build serves for all: it is built twice, once to count the allocations of
 each run, and once to refuse each of them. `rt try` builds with checks, so a bad access, a sum that
 wraps or a failed `unwrap` ends a run too. That takes some minutes, and no part of it is in the gate.
 
 For each row it prints how many allocations were refused and how these runs ended. Its status is 1
-where one ended otherwise.
+if one ended otherwise.
 """
 
 import os
@@ -39,7 +39,7 @@ EMPTY_3 = "   a b c\n 1 . . .\n  2 . . .\n   3 . . .\n\n"
 
 
 class Row:
-    """A run: its words, its input, and the text that it gives, where that is one text."""
+    """A run: its words, its input, and the text that it gives, if that is one text."""
 
     program = "hexd"
 
@@ -51,7 +51,7 @@ class Row:
         return given == self.given
 
     def fronts(self):
-        """What may have been given where memory ran out: the first answers, or nothing."""
+        """What may have been given when memory ran out: the first answers, or nothing."""
         answers = self.given.split("\n\n")[:-1] if self.is_session else []
         return {"".join(answer + "\n\n" for answer in answers[:count]) for count in range(len(answers) + 1)}
 
@@ -137,7 +137,7 @@ class Run:
         self.status, self.errors, self.given = int(status), rest[: int(length)], rest[int(length) :]
 
     def count(self, word):
-        """The number behind this word, which has to be the first one."""
+        """The number after this word, which has to be the first one."""
         if not self.place.startswith(word + " "):
             sys.exit("the refused allocation is not where it was looked for: %s" % self.place)
         return int(self.place.split()[1])
@@ -179,7 +179,7 @@ def run_all(folder, runs):
 
 
 def verdict(row, run):
-    """How a run ended in which an allocation was refused; None where that may not be."""
+    """How a run ended in which an allocation was refused; None if that may not be."""
     if run.place != "within":
         return None
     if run.status == 0 and run.errors == "" and row.is_given(run.given):
@@ -197,7 +197,7 @@ def main():
         folder = Path(place)
         make_repository(folder)
         wrong = 0
-        # Where nothing is refused in the run: what is left of the allocations before and behind it.
+        # If nothing is refused in the run: what is left of the allocations before and after it.
         counted = run_all(folder, [(name, before) for name in names for before in (0, 2 * REFUSED)])
         first = {}
         for name in names:

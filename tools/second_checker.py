@@ -2,7 +2,7 @@
 """A second checker of Hex certificates, which goes by docs/use/CERTIFICATES.md: tools/second_checker.py <FILE
 
 It shares nothing with hexd, and answers and ends as `hexd check` does: with status 0 after `yes full` or `yes semi`,
-and else with status 1. Cells and edges are places: place k is the cell with number k, and the two places behind the
+and else with status 1. Cells and edges are places: place k is the cell with number k, and the two places after the
 cells are the player's first and second edge. A set of places is an integer, whose bit k stands for place k."""
 import re
 import sys
@@ -57,7 +57,7 @@ def read(data):
     return size, player, (black, white), lines
 
 def neighbours(size, player):
-    """For each place the places that it is linked with where the player has both."""
+    """For each place the places that it is linked with if the player has both."""
     where = {(k % size, k // size): k for k in range(size**2)}
     steps = ((-1, 0), (1, 0), (0, -1), (0, 1), (1, -1), (-1, 1))
     near = [{where[x + p, y + q] for p, q in steps if (x + p, y + q) in where} for x, y in where]
@@ -67,7 +67,7 @@ def neighbours(size, player):
     return [set_of(places) for places in near]
 
 class Board:
-    """The player's elements on the board of a scope, where these places are his own."""
+    """The player's elements on the board of a scope, on which these places are his own."""
     def __init__(self, near, own):
         self.near, self.own, self.elements = near, own, {}
         self.edges = frozenset((self.element(len(near) - 2), self.element(len(near) - 1)))
@@ -93,7 +93,7 @@ class Checker:
 
     def rows(self, name, places, entries, kind, scope):
         """The rows of the table, each with its number and whether it applies to a line that takes entries of this kind
-        and scope. A row is looked at where none before it applies."""
+        and scope. A row is looked at if none before it applies."""
         board, taken, pairs = self.board(self.scope), set_of(places), [e and e.pair for e in entries]
         yield 1, any(e is None or e.kind != kind for e in entries)
         yield 1, name in ("and", "key", "or") and any(len(pair) == 1 for pair in pairs)

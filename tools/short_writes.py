@@ -5,8 +5,8 @@
 
 A write that waits for its reader comes back with what it has written so far when the process is stopped
 and goes on. So a certificate of several MB is written to a pipe of 4,096 bytes (standard output), and a
-trace to a terminal that nobody reads (the file of --trace). It says nothing where each byte arrives once,
-in order, and its status is 1 where one does not, or no write came back short.
+trace to a terminal that nobody reads (the file of --trace). It says nothing if each byte arrives once,
+in order, and its status is 1 if one does not, or no write came back short.
 """
 
 import os
@@ -141,7 +141,7 @@ def check_terminal():
             process.stdin.write(b"genmove b\n")
             process.stdin.flush()
             before, got = written(process.pid), b""
-            # Where the terminal was full at the end of a write, some room is made for a part of the next one.
+            # If the terminal was full at the end of a write, some room is made for a part of the next one.
             until(lambda: written(process.pid) > before, "the trace")
             until(lambda: is_waiting(process.pid), "a full terminal")
             while interrupt(process.pid) % WRITE == 0:

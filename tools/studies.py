@@ -5,7 +5,7 @@ A study is a text. A line is a name and its value, `#` begins a comment:
     size 11                              the board's size
     games 20                             games of a block, an even number, so that both sides are Black as often
     blocks 5                             blocks of each match
-    seed 0                               the number of the first block, 0 where it isn't said
+    seed 0                               the number of the first block, 0 if it isn't said
     setting s180 playouts=1000           a setting: its name, and what of hexmatch's options for a side it says otherwise
     setting s0 playouts=1000 weight=0
     match s180 s0                        which settings meet; without such lines each meets each
@@ -110,7 +110,7 @@ def read(path):
 
 
 def wins_in(text, games):
-    """How many games the sides have won by a text of hexmatch. Fault where it is none of so many games."""
+    """How many games the sides have won by a text of hexmatch. Fault if it is none of so many games."""
     *lines, last = text.splitlines() or [""]
     found, sums = [GAME.fullmatch(line) for line in lines], LAST.fullmatch(last)
     numbers = [int(game[1]) for game in found if game]
