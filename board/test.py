@@ -133,8 +133,8 @@ def run(options):
     if not is_passed:
         print(told.getvalue(), file=sys.stderr)
         return 1
-    for name in late:
-        print(f"board/test.py: passed at the second try alone: {name}", file=sys.stderr)
+    for test, why in result.failures + result.errors:
+        print(f"board/test.py: passed at the second try alone: {test.id()}\n{why}", file=sys.stderr)
     print(f"board/test.py: {result.testsRun} tests passed", file=sys.stderr)
     return 0
 

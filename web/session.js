@@ -36,8 +36,8 @@ class Session {
 
   /** The text of a record in hexd's form, which is all that is read here: {record, notes}. */
   static async convert(bytes) {
-    const text = new TextDecoder().decode(bytes), begin = text.indexOf('(;');
-    if (begin < 0) throw new Refused('this is no record in SGF');
+    const text = new TextDecoder().decode(bytes), begin = text.search(/\(\s*;/);
+    if (begin < 0) throw new Refused('it is no record of a game');
     return {record: text.slice(begin), notes: []};
   }
 

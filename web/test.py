@@ -51,10 +51,10 @@ SMALL = 200
 FEW_PAGES = 320
 # Tests of the board's page in the quick form; and those that are of its server, which also reads records of other programs.
 OF_BOARD = """test_size_3_by_clicks test_size_11_by_clicks_and_keys_against_hexd test_hexd_against_itself test_swap
-test_save_and_open test_a_certified_win test_the_map_on_an_empty_board""".split()
+test_save_and_open test_what_is_refused_says_why test_a_certified_win test_the_map_on_an_empty_board""".split()
 OF_SERVER = """test_a_lost_process test_a_page_that_goes_ends_its_session test_the_page_after_the_last_place test_copies
-test_a_record_of_another_program test_what_is_refused_says_why test_what_a_record_says_is_kept test_stop_ends_a_search
-test_back_without_a_process test_to_the_start_by_one_record""".split()
+test_a_record_of_another_program test_what_a_record_says_is_kept test_stop_ends_a_search test_back_without_a_process
+test_to_the_start_by_one_record""".split()
 
 
 def missing():
@@ -188,6 +188,7 @@ class Heap(InBrowser):
 
 class Page(InBrowser):
     def tearDown(self):
+        self.browser.forget()
         self.assertEqual([], self.browser.faults())
 
     def moves(self):
@@ -293,6 +294,29 @@ class Page(InBrowser):
         browser.click("#again")
         browser.cell("d2")
         self.assertEqual(["c3", "b3", "d2"], self.moves())
+
+    def test_records(self):
+        """What is no record in hexd's form is refused, whatever it has; of a side line it is said that it is left out."""
+        browser = self.open(f"{self.small.as_uri()}#3,a2")
+        for record, link, said in (
+            (b"(;SZ[4];B[b2];W[])", "3,a2", "hexd: move 2 is no move: White ''"),
+            (b"(;SZ[4];B[b2];W[cc])", "3,a2", "hexd: move 2 is no move: White 'cc'"),
+            (b"(;SZ[4];B[b2]W[a1])", "3,a2", "hexd: node 1 has two moves"),
+            (b"(;SZ[4];B[b2];AB[a1])", "3,a2",
+             "hexd: stones are set or taken away at move 2, and hexd takes those of the start alone"),
+            (b"(;SZ[4]AW[zz];B[b2])", "3,a2", "hexd: a stone of the start lies on no cell: 'zz'"),
+            (b"(;SZ[4:5];B[b2])", "3,a2", "hexd: size 4:5: hexd plays 1 to 11"),
+            (b"(\n;SZ[4:4]AW[A1];B[B2])", "4,+w-a1,b2", ""),
+            (b"(;B[b2])", "11,b2", ""),
+            (b"(;SZ[4];B[b2](;W[a1])(;W[pass];B[c1]))", "4,b2,a1", "A side line is left out: move 2 is no move: White 'pass'."),
+        ):
+            with self.subTest(record=record):
+                file = browser.folder / "opened.sgf"
+                file.write_bytes(record)
+                browser.find("#open").send_keys(str(file))
+                told = lambda: (browser.run("return location.hash.slice(1)"), browser.text("#said"))  # noqa: E731
+                until(lambda: told() == (link, said), f"{link} and '{said}'")
+                browser.ready()
 
     def test_a_broken_module(self):
         address = self.changed("broken", r'(id="hexd"[^>]*>)[^<]{400}', r"\1")
@@ -449,8 +473,8 @@ def run(options, folder):
         if not again.wasSuccessful() or again.testsRun != len(late):
             print(told.getvalue(), file=sys.stderr)
             return 1
-    for name in late:
-        print(f"web/test.py: passed at the second try alone: {name}", file=sys.stderr)
+    for test, why in result.failures + result.errors:
+        print(f"web/test.py: passed at the second try alone: {test.id()}\n{why}", file=sys.stderr)
     print(f"web/test.py: {result.testsRun} tests passed", file=sys.stderr)
     return 0
 

@@ -123,7 +123,8 @@ class Play {
       this.message.say(`hexd: ${fault.message}`);
     } else {
       this.message.say(`The page has a fault: ${fault.message}`);
-      throw fault;
+      // The console has it too, and the page goes on.
+      reportError(fault);
     }
   }
 

@@ -5,6 +5,9 @@
 /** The property of a node that says that the game stood there when the record was saved. */
 const HERE = 'HERE';
 const ENDINGS = ['resign', 'forfeit'];
+const CELL = /^[a-k][1-9][0-9]?$/;
+// The properties that set stones or take them away.
+const SETUP = ['AB', 'AW', 'AE'];
 
 /** A position: the step that led to it ({colour, move}; null at the start), and all that is known of it. */
 class Position {
@@ -79,9 +82,12 @@ function treeOfMoves({size, start, steps, position = steps.length}) {
   return tree;
 }
 
-// hexd also reads cells in capitals.
-const stonesIn = ({AB = [], AW = []}) =>
-  [...AB.map(vertex => ['b', vertex.toLowerCase()]), ...AW.map(vertex => ['w', vertex.toLowerCase()])];
+/** The stones of the start. hexd also reads cells in capitals. */
+function stonesIn({AB = [], AW = []}) {
+  const wrong = [...AB, ...AW].find(vertex => !CELL.test(vertex.toLowerCase()));
+  if (wrong !== undefined) throw new Refused(`a stone of the start lies on no cell: '${wrong.slice(0, 20)}'`);
+  return [...AB.map(vertex => ['b', vertex.toLowerCase()]), ...AW.map(vertex => ['w', vertex.toLowerCase()])];
+}
 
 /** Adds what stands in a node without a move to the position before it; `left` gets the names of what has no place there. */
 function mergeProperties(position, properties, left) {
@@ -92,34 +98,53 @@ function mergeProperties(position, properties, left) {
   }
 }
 
-/** The tree of a record in hexd's form, and sentences on what of it is left out: {tree, notes}. */
+/** The tree of a record in hexd's form, and sentences on what of it is left out: {tree, notes}. Refused if it isn't in it. */
 function treeOfRecord(text) {
-  const root = readSgf(text), left = new Set();
-  const {FF, GM, SZ: [size], AB, AW, B, W, [HERE]: isHere, ...properties} = root.properties;
-  const tree = new Tree(Number(size), stonesIn({AB, AW}), properties);
+  const root = readSgf(text), left = new Set(), notes = [];
+  const {FF, GM: [game] = ['11'], SZ: [size] = ['11'], AB, AW, B, W, [HERE]: isHere, ...properties} = root.properties;
+  if (game !== '11') throw new Refused(`it is a record of another game than Hex: GM[${game}]`);
+  const tree = new Tree(sizeOf(size), stonesIn({AB, AW}), properties);
   let here = null;
   const pending = [[tree.root, B || W ? {properties: {...B && {B}, ...W && {W}}, children: root.children} : root, true]];
   while (pending.length) {
-    const [parent, node, isRoot] = pending.pop();
-    const position = isRoot && node === root ? parent : placed(tree, parent, node.properties, left);
-    if (HERE in node.properties) here = position;
-    for (const child of [...node.children].reverse()) pending.push([position, child, false]);
+    const [parent, node, isMain] = pending.pop();
+    try {
+      const position = node === root ? parent : placed(tree, parent, node.properties, left);
+      if (HERE in node.properties) here = position;
+      const children = node.children.map((child, at) => [position, child, isMain && at === 0]);
+      pending.push(...children.reverse());
+    } catch (fault) {
+      if (isMain || !(fault instanceof Refused)) throw fault;
+      notes.push(`A side line is left out: ${fault.message}.`);
+    }
   }
   tree.goTo(endOf(tree.root));
   if (here) tree.goTo(here);
-  const notes = left.size ? [`Left out: ${[...left].join(', ')} of nodes without a move.`] : [];
+  if (left.size) notes.push(`Left out: ${[...left].join(', ')} of nodes without a move.`);
   return {tree, notes};
 }
 
-/** The position that a node of a record leads to. */
-function placed(tree, parent, {B, W, ...properties}, left) {
+/** The size of the board in a record: a number, or the same one twice. */
+function sizeOf(text) {
+  const size = Number(/^(\d+)(?::\1)?$/.exec(text)?.[1]);
+  if (!(size >= 1 && size <= LETTERS.length)) throw new Refused(`size ${text}: hexd plays 1 to ${LETTERS.length}`);
+  return size;
+}
+
+/** The position that a node of a record leads to; Refused if it has what hexd doesn't read. */
+function placed(tree, parent, {B = [], W = [], ...properties}, left) {
   delete properties[HERE];
-  const colour = B ? 'b' : 'w', move = (B ?? W)?.[0]?.toLowerCase();
+  const colour = B.length ? 'b' : 'w', [value, second] = [...B, ...W], move = value?.toLowerCase(), number = parent.number + 1;
+  if (second !== undefined) throw new Refused(`node ${number} has two moves`);
+  if (SETUP.some(name => name in properties)) {
+    throw new Refused(`stones are set or taken away at move ${number}, and hexd takes those of the start alone`);
+  }
   if (ENDINGS.includes(move)) parent.end = {colour, move, properties};
-  if (!move || ENDINGS.includes(move)) {
+  if (move === undefined || ENDINGS.includes(move)) {
     mergeProperties(parent, ENDINGS.includes(move) ? {} : properties, left);
     return parent;
   }
+  if (move !== SWAP && !CELL.test(move)) throw new Refused(`move ${number} is no move: ${COLOURS[colour]} '${value.slice(0, 20)}'`);
   const position = tree.after(parent, {colour, move});
   mergeProperties(position, properties, left);
   return position;

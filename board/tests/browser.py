@@ -32,9 +32,10 @@ ARGUMENTS = [
     # Over a pipe Chromium ends when its driver does, however that comes.
     "--remote-debugging-pipe",
 ]
-WIDE, LAPTOP, TABLET = (1440, 900), (1280, 680), (820, 1180)
+WIDE, LAPTOP, OLD, TABLET = (1440, 900), (1280, 680), (1024, 768), (820, 1180)
 NARROW, LYING = (390, 844), (844, 390)
-PHONES = (NARROW, LYING)
+SMALL, SMALL_LYING = (360, 640), (640, 360)
+PHONES = (NARROW, LYING, SMALL, SMALL_LYING)
 
 
 class Browser:
@@ -164,6 +165,10 @@ class Browser:
 
     def shot(self, file):
         self.driver.save_screenshot(str(file))
+
+    def forget(self):
+        """What the page has kept is not for the next one."""
+        self.run("try { localStorage.clear() } catch { return }")
 
     def faults(self):
         """What the console says that is an error, since it was last asked."""

@@ -290,6 +290,17 @@ class Lasting(Pages):
         browser.cell("a1")
         self.soon(["c3", "b3", "a1"], self.moves)
 
+    def test_a_fault_of_the_page(self):
+        """It is told, and the page goes on."""
+        browser = self.start("5,c3")
+        browser.run("play.game.play = () => { throw new Error('a test'); }")
+        browser.cell("a1")
+        self.soon("The page has a fault: a test", self.words("#said"))
+        self.assertIn("a test", str(browser.faults()))
+        browser.run("delete play.game.play")
+        browser.cell("a1")
+        self.soon(["c3", "a1"], self.moves)
+
     def test_back_without_a_process(self):
         browser = self.start("5,c3,b3")
         browser.click("#new")

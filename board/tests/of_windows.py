@@ -1,9 +1,10 @@
 """The page in windows of several sizes, in light and dark, and boards of all sizes and orientations."""
 
-from tests.browser import LAPTOP, LYING, NARROW, TABLET, WIDE
+from tests.browser import LAPTOP, LYING, NARROW, OLD, SMALL, SMALL_LYING, TABLET, WIDE
 from tests.pages import Pages
 
-WINDOWS = (("wide", WIDE), ("laptop", LAPTOP), ("tablet", TABLET), ("phone", NARROW), ("phone-lying", LYING))
+WINDOWS = (("wide", WIDE), ("laptop", LAPTOP), ("old", OLD), ("tablet", TABLET), ("phone", NARROW), ("phone-lying", LYING),
+           ("small-phone", SMALL), ("small-phone-lying", SMALL_LYING))
 
 
 class Windows(Pages):
@@ -20,7 +21,7 @@ class Windows(Pages):
                     self.assertEqual(0, self.browser.run(across))
                     if name in ("wide", "laptop"):
                         self.assertEqual(size[0], self.browser.run("return document.documentElement.clientWidth"))
-                    for css in ("#status", "#board", "#back", "#undo", "#hint", "#go", "#new"):
+                    for css in ("#status", "#board", "#back", "#undo", "#hint", "#go", "#swap", "#new"):
                         self.assertTrue(self.is_seen(css, size), css)
                     if name in ("wide", "laptop", "tablet", "phone-lying"):
                         self.assertTrue(self.is_seen("#player-b", size))

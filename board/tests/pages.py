@@ -25,8 +25,7 @@ class Pages(unittest.TestCase):
         self.browser.window(WIDE)
 
     def tearDown(self):
-        # What this page has kept is not for the next one.
-        self.browser.run("try { localStorage.clear() } catch { return }")
+        self.browser.forget()
         self.assertEqual([], self.browser.faults())
 
     def start(self, link="", players=("I", "I"), server=None):
