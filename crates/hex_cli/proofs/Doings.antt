@@ -1,14 +1,10 @@
 -- What follows of what was done in any mode, by its kind.
-use Rattle.std.proofs.Common.{List, Some, None, Option, Err, false, refl, ◌≡◌, ◌≢◌, ℕ, ◌+◌, ◌≤◌}
-use Rattle.std.proofs.Common.{◌⊎◌, length, sym, ◌∙◌, subst}
-use Rattle.std.specs.Prelude.{◌↔◌}
-use Rattle.hex_io.specs.Told.{Told, Both, Same}
-use Rattle.hex_plan.specs.Turns.{TurnData}
+use Rattle.std.proofs.Common.{Some, None, Option, Err, refl, ◌≡◌, ◌≢◌}
+use Rattle.std.proofs.Common.{sym, ◌∙◌, subst}
+use Rattle.hex_io.specs.Told.{Both, Same}
 use Rattle.turn_modes.specs.HandingIn.{IsTurnOf}
 use Rattle.hex_devices.specs.Devices.{DevicesState, link_and_archive, shelf_and_archive}
-use Rattle.htp_session.specs.Endings.{since}
 use Rattle.htp_session.proofs.Conversations.{conversed_nothing}
-use Rattle.hex_devices.specs.Inputs.{TextOf}
 use Rattle.hex_devices.specs.declared.stops.Stop.TheVariants.{ReadFault, WriteFault, ArchiveFault}
 use Rattle.hex_devices.specs.declared.stops.Stop.TheVariants.{Memory}
 use Rattle.hex_devices.specs.declared.errors.AnswerError.TheVariants as answer
@@ -22,7 +18,6 @@ use Rattle.hex_cli.specs.WholeInputs.{IsTextOf}
 use Rattle.hex_cli.specs.declared.kinds.ModeKind.{ModeKind}
 use Rattle.hex_cli.specs.declared.kinds.ModeKind.TheVariants.{Session, WholeInput, OneTurn}
 use Rattle.hex_cli.specs.declared.whole_inputs.InputMode.{InputMode}
-use Rattle.hex_devices.specs.Statuses.{status_of}
 use Rattle.hex_devices.specs.declared.ends.End.{End}
 use Rattle.hex_devices.specs.declared.ends.End.TheVariants.{Usage, Stopped}
 use Rattle.hex_cli.specs.declared.limits.TheConstants.{INPUT_LIMIT}
