@@ -1,16 +1,15 @@
 -- What follows of what was done in any mode, by its kind.
-use Rattle.std.proofs.Common.{List, Some, None, Option, Err, false, refl, ◌≡◌, ◌≢◌, ℕ, ◌+◌, ◌≤◌}
-use Rattle.std.proofs.Common.{◌⊎◌, length, sym, ◌∙◌, subst}
-use Rattle.std.specs.Prelude.{◌↔◌}
-use Rattle.hex_io.specs.Told.{Told, Both, Same}
-use Rattle.hex_plan.specs.Turns.{TurnData}
+use Rattle.std.proofs.Common.{Some, None, Option, Err, refl, ◌≡◌, ◌≢◌}
+use Rattle.std.proofs.Common.{sym, ◌∙◌, subst}
+use Rattle.hex_io.specs.Told.{Both, Same}
 use Rattle.turn_modes.specs.HandingIn.{IsTurnOf}
 use Rattle.hex_devices.specs.Devices.{DevicesState, link_and_archive, shelf_and_archive}
-use Rattle.htp_session.specs.Endings.{since}
 use Rattle.htp_session.proofs.Conversations.{conversed_nothing}
-use Rattle.hex_devices.specs.Inputs.{TextOf}
 use Rattle.hex_devices.specs.declared.stops.Stop.TheVariants.{ReadFault, WriteFault, ArchiveFault}
 use Rattle.hex_devices.specs.declared.stops.Stop.TheVariants.{Memory}
+use Rattle.hex_devices.specs.declared.errors.AnswerError.TheVariants as answer
+use Rattle.hex_devices.specs.declared.errors.InputError.TheVariants as input
+use Rattle.hex_devices.specs.declared.errors.OutputError.TheVariants as output
 use Rattle.hexd_args.specs.declared.settings.Options.{Options}
 use Rattle.hex_cli.specs.Modes.{engine_options, mode_options}
 use Rattle.hex_cli.specs.Runs.{IsUnarchived, IsUnfetched}
@@ -19,14 +18,13 @@ use Rattle.hex_cli.specs.WholeInputs.{IsTextOf}
 use Rattle.hex_cli.specs.declared.kinds.ModeKind.{ModeKind}
 use Rattle.hex_cli.specs.declared.kinds.ModeKind.TheVariants.{Session, WholeInput, OneTurn}
 use Rattle.hex_cli.specs.declared.whole_inputs.InputMode.{InputMode}
-use Rattle.hex_devices.specs.Statuses.{status_of}
 use Rattle.hex_devices.specs.declared.ends.End.{End}
 use Rattle.hex_devices.specs.declared.ends.End.TheVariants.{Usage, Stopped}
 use Rattle.hex_cli.specs.declared.limits.TheConstants.{INPUT_LIMIT}
 use Rattle.hex_cli.proofs.InputEnds.{IsComplete, IsLong}
 use Rattle.hex_cli.proofs.InputEnds.{input_complete, input_no_usage, input_nothing, input_too_long}
 use Rattle.hex_cli.proofs.RunLaws.{outcome_no_usage, session_complete, session_too_long}
-use Rattle.hex_cli.proofs.HandedTurns.{handed_complete, handed_too_long}
+use Rattle.hex_cli.proofs.HandedTurns.{handed_complete, handed_no_usage, handed_too_long}
 
 -- ---- no mode ends with a usage
 
@@ -34,7 +32,7 @@ pub does_no_usage : (kind : ModeKind) (options : Options) (end : End) (old new :
     → ServesBy kind options end old new → end ≢ Usage
 does_no_usage Session options end old new d e = outcome_no_usage d.1.0 (sym d.1.1 ∙ e)
 does_no_usage (WholeInput mode) options end old new d e = input_no_usage d.0 (sym d.1 ∙ e)
-does_no_usage (OneTurn mode) options end old new d e = outcome_no_usage d.0 (sym d.1 ∙ e)
+does_no_usage (OneTurn mode) options end old new d e = handed_no_usage d.0 (sym d.1 ∙ e)
 
 -- ---- the input is too long exactly if one byte more than the limit was taken
 
@@ -91,8 +89,8 @@ does_nothing Session options at =
     (shelf_and_archive at) at.link in
     (nothing.0, (Err Memory, refl, nothing.1), nothing.2)
 does_nothing (WholeInput mode) options at =
-    (Err Memory, refl, input_nothing (IsTextOf mode) INPUT_LIMIT at.link)
-does_nothing (OneTurn mode) options at = (Err Memory, refl, (refl, same_self at.turns))
+    (Err (answer.Input input.Memory), refl, input_nothing (IsTextOf mode) INPUT_LIMIT at.link)
+does_nothing (OneTurn mode) options at = (Err output.Memory, refl, (refl, same_self at.turns))
 
 -- ---- what stands idle
 

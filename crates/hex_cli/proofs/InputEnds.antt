@@ -8,9 +8,10 @@ use Rattle.hex_io.specs.Told.{Told, Both}
 use Rattle.hex_io.proofs.BothLaws.{Both-weaker}
 use Rattle.htp_session.specs.Endings.{since}
 use Rattle.hex_devices.specs.Inputs.{TextOf, TookAtMost, AnsweredAll, AnsweredPart, AnswersInput}
-use Rattle.hex_devices.specs.declared.stops.Stop.{Stop}
-use Rattle.hex_devices.specs.declared.stops.Stop.TheVariants.{ReadFault, WriteFault, Memory}
-use Rattle.hex_devices.specs.declared.stops.Stop.TheVariants.{TooLong, ArchiveFault}
+use Rattle.hex_devices.specs.declared.errors.AnswerError.{AnswerError}
+use Rattle.hex_devices.specs.declared.errors.AnswerError.TheVariants as answer
+use Rattle.hex_devices.specs.declared.errors.InputError.TheVariants as input
+use Rattle.hex_devices.specs.declared.stops.Stop.TheVariants.{ReadFault, WriteFault}
 use Rattle.hex_devices.proofs.InputLaws.{took_at_most, took_nothing}
 use Rattle.hex_devices.specs.Statuses.{end_of_answer, status_of}
 use Rattle.hex_devices.specs.declared.ends.End.{End}
@@ -51,9 +52,9 @@ IsComplete limit end o n = length (since o n) ≤ limit
 pub not_too_long : (limit k s : ℕ) → k ≤ limit → s ≢ 6 → (s ≡ 6) ↔ (k ≡ limit + 1)
 not_too_long limit k s few other = (λ e. absurd (other e), λ e. absurd (omega (arith, e, few)))
 
-pub input_too_long : (Answers : TextOf) (limit : ℕ) (x y : Option Told) (answer : Result Bool Stop)
-    → AnswersInput Answers x y limit answer
-    → Both x y (IsLong limit (end_of_answer answer))
+pub input_too_long : (Answers : TextOf) (limit : ℕ) (x y : Option Told)
+    (result : Result Bool AnswerError) → AnswersInput Answers x y limit result
+    → Both x y (IsLong limit (end_of_answer result))
 input_too_long Answers limit x y (Ok true) told
     = Both-weaker x y _ _
     (λ o n p. not_too_long limit _ 0 (all_since Answers true limit o n p)
@@ -62,38 +63,40 @@ input_too_long Answers limit x y (Ok false) told
     = Both-weaker x y _ _
     (λ o n p. not_too_long limit _ 1 (all_since Answers false limit o n p)
     (λ e. omega (arith, e))) told
-input_too_long Answers limit x y (Err ReadFault) told
+input_too_long Answers limit x y (Err (answer.Input input.Read)) told
     = Both-weaker x y _ _
     (λ o n p. not_too_long limit _ 3 (few_since limit o n p) (λ e. omega (arith, e))) told
-input_too_long Answers limit x y (Err WriteFault) told
-    = Both-weaker x y _ _
-    (λ o n p. not_too_long limit _ 4 (part_since Answers limit o n p) (λ e. omega (arith, e))) told
-input_too_long Answers limit x y (Err Memory) told
+input_too_long Answers limit x y (Err (answer.Input input.Memory)) told
     = Both-weaker x y _ _
     (λ o n p. not_too_long limit _ 5 (few_since limit o n p) (λ e. omega (arith, e))) told
-input_too_long Answers limit x y (Err TooLong) told
+input_too_long Answers limit x y (Err (answer.Input input.TooLong)) told
     = Both-weaker x y _ _
     (λ o n p. (
       λ e. subst (λ (l : List ℕ). length l ≡ limit + 1)
           (sym (taken_since o n p.0 p.2.taken)) p.1,
       λ e. refl,
     )) told
-input_too_long Answers limit x y (Err ArchiveFault) told = absurd told
+input_too_long Answers limit x y (Err answer.Memory) told
+    = Both-weaker x y _ _
+    (λ o n p. not_too_long limit _ 5 (few_since limit o n (p.0, p.1, p.2)) (λ e. omega (arith, e)))
+    told
+input_too_long Answers limit x y (Err answer.Write) told
+    = Both-weaker x y _ _
+    (λ o n p. not_too_long limit _ 4 (part_since Answers limit o n p) (λ e. omega (arith, e))) told
 
 -- without a fault
-pub input_complete : (Answers : TextOf) (limit : ℕ) (x y : Option Told) (answer : Result Bool Stop)
-    → AnswersInput Answers x y limit answer
-    → end_of_answer answer ≢ Stopped ReadFault → end_of_answer answer ≢ Stopped WriteFault
-    → Both x y (IsComplete limit (end_of_answer answer))
+pub input_complete : (Answers : TextOf) (limit : ℕ) (x y : Option Told)
+    (result : Result Bool AnswerError) → AnswersInput Answers x y limit result
+    → end_of_answer result ≢ Stopped ReadFault → end_of_answer result ≢ Stopped WriteFault
+    → Both x y (IsComplete limit (end_of_answer result))
 input_complete Answers limit x y (Ok true) told r w
     = Both-weaker x y _ _ (λ o n p few. inl refl) told
 input_complete Answers limit x y (Ok false) told r w
     = Both-weaker x y _ _ (λ o n p few. inr (inl refl)) told
-input_complete Answers limit x y (Err ReadFault) told r w = absurd (r refl)
-input_complete Answers limit x y (Err WriteFault) told r w = absurd (w refl)
-input_complete Answers limit x y (Err Memory) told r w
+input_complete Answers limit x y (Err (answer.Input input.Read)) told r w = absurd (r refl)
+input_complete Answers limit x y (Err (answer.Input input.Memory)) told r w
     = Both-weaker x y _ _ (λ o n p few. inr (inr refl)) told
-input_complete Answers limit x y (Err TooLong) told r w
+input_complete Answers limit x y (Err (answer.Input input.TooLong)) told r w
     = Both-weaker x y _ _
     (λ o n p few. absurd (omega (
       arith,
@@ -101,15 +104,17 @@ input_complete Answers limit x y (Err TooLong) told r w
           (taken_since o n p.0 p.2.taken) few,
       p.1,
     ))) told
-input_complete Answers limit x y (Err ArchiveFault) told r w = absurd told
+input_complete Answers limit x y (Err answer.Memory) told r w
+    = Both-weaker x y _ _ (λ o n p few. inr (inr refl)) told
+input_complete Answers limit x y (Err answer.Write) told r w = absurd (w refl)
 
 -- such a mode never ends with a usage
-pub input_no_usage : (answer : Result Bool Stop) → end_of_answer answer ≢ Usage
+pub input_no_usage : (result : Result Bool AnswerError) → end_of_answer result ≢ Usage
 input_no_usage (Ok true) e = absurd (cc)
 input_no_usage (Ok false) e = absurd (cc)
-input_no_usage (Err stop) e = absurd (cc)
+input_no_usage (Err error) e = absurd (cc)
 
 -- before the first read nothing was taken
 pub input_nothing : (Answers : TextOf) (limit : ℕ) (x : Option Told)
-    → AnswersInput Answers x x limit (Err Memory)
+    → AnswersInput Answers x x limit (Err (answer.Input input.Memory))
 input_nothing Answers limit x = took_at_most x x [] limit (omega arith) (took_nothing x [] refl)

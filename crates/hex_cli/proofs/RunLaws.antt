@@ -1,17 +1,16 @@
 -- What follows of how a session ended.
-use Rattle.std.proofs.Common.{Ok, Err, ◌≡◌, ◌≢◌, ℕ, ◌+◌, ◌≤◌, ◌⊎◌, length, Option, refl, inl, inr}
+use Rattle.std.proofs.Common.{Ok, Err, ◌≡◌, ◌≢◌, ℕ, Option, refl, inl, inr}
 use Rattle.std.proofs.Common.{arith}
-use Rattle.std.specs.Prelude.{◌↔◌}
 use Rattle.hex_io.specs.Told.{Told, Both}
 use Rattle.hex_io.proofs.BothLaws.{Both-weaker}
 use Rattle.hex_engine.specs.declared.options.Options.{Options}
 use Rattle.hex_engine.specs.Supply.{Supply}
 use Rattle.hex_devices.specs.Devices.{ShelfAndArchive}
-use Rattle.htp_session.specs.Endings.{Conversed, since}
+use Rattle.htp_session.specs.Endings.{Conversed}
 use Rattle.hex_devices.specs.Devices.{Outcome}
 use Rattle.hex_devices.specs.declared.stops.Stop.TheVariants.{ReadFault, WriteFault, Memory}
 use Rattle.hex_devices.specs.declared.stops.Stop.TheVariants.{TooLong, ArchiveFault}
-use Rattle.hex_devices.specs.Statuses.{end_for, status_of, stop_in}
+use Rattle.hex_devices.specs.Statuses.{end_for, stop_in}
 use Rattle.hex_devices.specs.Devices.{stop_of}
 use Rattle.hex_devices.specs.declared.ends.End.TheVariants.{Done, Usage, Stopped}
 use Rattle.hex_cli.proofs.InputEnds.{IsComplete, IsLong, not_too_long}

@@ -11,11 +11,12 @@ use Rattle.htp_session.specs.Endings.{Conversed}
 use Rattle.hex_devices.specs.Devices.{DevicesState, Outcome}
 use Rattle.hex_devices.specs.Devices.{link_and_archive, shelf_and_archive}
 use Rattle.hex_devices.specs.Inputs.{AnswersInput, TextOf}
-use Rattle.hex_devices.specs.declared.stops.Stop.{Stop}
+use Rattle.hex_devices.specs.declared.errors.AnswerError.{AnswerError}
+use Rattle.hex_devices.specs.declared.errors.OutputError.{OutputError}
 use Rattle.turn_modes.specs.HandingIn.{HandsIn}
 use Rattle.turn_modes.specs.declared.modes.TurnMode.TheVariants as turn
 use Rattle.turn_modes.specs.declared.options.ModeOptions.{ModeOptions}
-use Rattle.hex_devices.specs.Statuses.{end_for, end_of_answer}
+use Rattle.hex_devices.specs.Statuses.{end_for, end_of_answer, end_of_output}
 use Rattle.hex_devices.specs.declared.ends.End.{End}
 use Rattle.hex_cli.specs.declared.kinds.ModeKind.{ModeKind}
 use Rattle.hex_cli.specs.declared.kinds.ModeKind.TheVariants.{Session, WholeInput, OneTurn}
@@ -56,13 +57,14 @@ PlaysBy used options end before after = (outcome : Outcome) × (end ≡ end_for 
 -- answered by such a text, and this is the end.
 abbrev pub AnswersBy : TextOf → End → DevicesState → DevicesState → Type 0
 AnswersBy Answers end before after =
-    (answer : Result Bool Stop) × (end ≡ end_of_answer answer)
+    (answer : Result Bool AnswerError) × (end ≡ end_of_answer answer)
     × AnswersInput Answers before.link after.link INPUT_LIMIT answer
 
 -- Modes sim and bench: the archive took a turn, and then such a text was given, and this is the
 -- end.
 abbrev pub HandsInBy : (ModeOptions → TurnData → List ℕ → Type 0) → Options → End
     → DevicesState → DevicesState → Type 0
-HandsInBy Says options end before after = (outcome : Outcome) × (end ≡ end_for outcome)
+HandsInBy Says options end before after =
+    (output : Result (Unit {0}) OutputError) × (end ≡ end_of_output output)
     × HandsIn (Says (mode_options options)) (link_and_archive before) (link_and_archive after)
-    outcome
+    output

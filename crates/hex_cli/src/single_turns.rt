@@ -33,8 +33,8 @@ pub fn serve_turn<L: Link, F: Shelf, A: Archive, R: Threads + Sync, G: Gate + Sy
     ensures counts { CountsStop devices.old devices.new (stop_in result) }
 {
     let told = mode_options(options);
-    let outcome = hand_in(alloc, mode, &told, devices);
-    End::of(outcome)
+    let output = hand_in(alloc, mode, &told, devices);
+    End::of_output(output)
 }
 
 /// What the modes are told.

@@ -3,11 +3,7 @@ use Rattle.std.proofs.Common.{◌≡◌, ◌≤◌, ℕ, List, [], ◌++◌, len
 use Rattle.std.proofs.Common.{subst, append-nil, append_assoc}
 use Rattle.hex_io.specs.Told.{Told, Both, TakesBytes, Same}
 use Rattle.hex_io.proofs.BothLaws.{Both-then, Both-weaker, Both-refl}
-use Rattle.std.specs.Prelude.{Err}
-use Rattle.hex_devices.specs.Inputs.{TookBytes, TookAtMost, TakesAll, TextOf, AnswersInput}
-use Rattle.hex_devices.specs.declared.stops.Stop.{Stop}
-use Rattle.hex_devices.specs.declared.stops.Stop.TheVariants.{ReadFault, WriteFault, Memory}
-use Rattle.hex_devices.specs.declared.stops.Stop.TheVariants.{TooLong, ArchiveFault}
+use Rattle.hex_devices.specs.Inputs.{TookBytes, TookAtMost}
 
 pub took_nothing : (a : Option Told) (xs : List ℕ) → xs ≡ [] → Both a a (TookBytes xs)
 took_nothing a xs none
@@ -37,12 +33,3 @@ took_before a b c xs limit few p same
 pub took_at_most : (a b : Option Told) (xs : List ℕ) (limit : ℕ) → length xs ≤ limit
     → Both a b (TookBytes xs) → Both a b (TookAtMost limit)
 took_at_most a b xs limit few p = Both-weaker a b _ _ (λ x y p. (xs, few, p)) p
-
--- where the input was not taken whole, nothing was given
-pub not_taken : (Answers : TextOf) (a b : Option Told) (limit : ℕ) (stop : Stop)
-    → TakesAll a b limit (Err stop) → AnswersInput Answers a b limit (Err stop)
-not_taken Answers a b limit ReadFault p = p
-not_taken Answers a b limit WriteFault p = absurd p
-not_taken Answers a b limit Memory p = p
-not_taken Answers a b limit TooLong p = p
-not_taken Answers a b limit ArchiveFault p = absurd p

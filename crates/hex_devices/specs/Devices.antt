@@ -44,9 +44,10 @@ abbrev pub stop_of : {T : Type 0} → Result T Stop → Option Stop
 stop_of (Ok value) = None
 stop_of (Err stop) = Some stop
 
--- the count rose with this stop, and is as before with every other result
-abbrev pub RisesWith : {T : Type 0} → Stop → ℕ → ℕ → Result T Stop → Type 0
-RisesWith stop before now result = CountsFault before now (stop_of result ≡ Some stop)
+-- the same, if its errors are told as these stops
+abbrev pub stop_as : {T E : Type 0} → (E → Stop) → Result T E → Option Stop
+stop_as stop_for (Ok value) = None
+stop_as stop_for (Err error) = Some (stop_for error)
 
 -- each count of faults rose with its own stop, and is as before with every other answer
 pub record CountsStop (old new : DevicesState) (stop : Option Stop) : Type 0 where
@@ -58,6 +59,11 @@ pub record CountsStop (old new : DevicesState) (stop : Option Stop) : Type 0 whe
 -- the same of a call that answers so
 abbrev pub CountsFaults : {T : Type 0} → DevicesState → DevicesState → Result T Stop → Type 0
 CountsFaults old new result = CountsStop old new (stop_of result)
+
+-- the same of a call that answers so, if its errors are told as these stops
+abbrev pub CountsAs : {T E : Type 0} → (E → Stop) → DevicesState → DevicesState → Result T E
+    → Type 0
+CountsAs stop_for old new result = CountsStop old new (stop_as stop_for result)
 
 -- the same of a call whose one refusal is told as this stop
 abbrev pub CountsOnly : {T E : Type 0} → Stop → DevicesState → DevicesState → Result T E → Type 0

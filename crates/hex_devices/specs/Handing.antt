@@ -6,13 +6,6 @@ use Rattle.hex_plan.specs.Turns.{TurnData}
 use Rattle.hex_devices.specs.Devices.{LinkAndArchive}
 use Rattle.hex_devices.specs.declared.faults.HandingFault.{HandingFault}
 use Rattle.hex_devices.specs.declared.faults.HandingFault.TheVariants.{Archive, Write}
-use Rattle.hex_devices.specs.declared.stops.Stop.{Stop}
-use Rattle.hex_devices.specs.declared.stops.Stop.TheVariants.{WriteFault, ArchiveFault}
-
--- why a run stops that could not hand over a turn and its text
-abbrev pub stop_of_handing : HandingFault → Stop
-stop_of_handing Archive = ArchiveFault
-stop_of_handing Write = WriteFault
 
 -- if the archive tells, it has exactly this turn more, at the end
 abbrev pub TookTurn : TurnData → Option (List TurnData) → Option (List TurnData) → Type 0

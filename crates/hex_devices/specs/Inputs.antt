@@ -4,9 +4,10 @@ use Rattle.std.specs.Prelude.{Err, Vec}
 use Rattle.std.specs.declared.alloc.Global.{Global}
 use Rattle.std.specs.declared.option.Option.{Option}
 use Rattle.hex_io.specs.Told.{Told, Both}
-use Rattle.hex_devices.specs.declared.stops.Stop.{Stop}
-use Rattle.hex_devices.specs.declared.stops.Stop.TheVariants.{ReadFault, WriteFault, Memory}
-use Rattle.hex_devices.specs.declared.stops.Stop.TheVariants.{TooLong, ArchiveFault}
+use Rattle.hex_devices.specs.declared.errors.AnswerError.{AnswerError}
+use Rattle.hex_devices.specs.declared.errors.AnswerError.TheVariants as answer
+use Rattle.hex_devices.specs.declared.errors.InputError.{InputError}
+use Rattle.hex_devices.specs.declared.errors.InputError.TheVariants as input
 
 -- these bytes were taken, and none given
 pub record TookBytes (bytes : List ℕ) (old new : Told) : Type 0 where
@@ -19,21 +20,28 @@ abbrev pub TookAtMost : ℕ → Told → Told → Type 0
 TookAtMost limit old new =
     (bytes : List ℕ) × (length bytes ≤ limit) × TookBytes bytes old new
 
+-- all bytes to come were taken, at most so many, and none given
+abbrev pub TookAll : ℕ → Told → Told → Type 0
+TookAll limit old new = (bytes : List ℕ) × (length bytes ≤ limit) × TookBytes bytes old new
+    × (new.to_come ≡ [])
+
 -- one byte more than the limit was taken, and none given
 abbrev pub TookTooMany : ℕ → Told → Told → Type 0
 TookTooMany limit old new =
     (bytes : List ℕ) × (length bytes ≡ limit + 1) × TookBytes bytes old new
 
--- All bytes to come were taken, and they are the answer. At a read fault or for want of memory at
--- most the limit was taken; the input is too long if one byte more was taken.
-abbrev pub TakesAll : Option Told → Option Told → ℕ → Result (Vec ℕ Global) Stop → Type 0
+-- What was taken of an input that was not taken whole: at a read fault or for want of memory at
+-- most the limit; the input is too long if one byte more was taken.
+abbrev pub TookBefore : InputError → ℕ → Told → Told → Type 0
+TookBefore input.Read = TookAtMost
+TookBefore input.TooLong = TookTooMany
+TookBefore input.Memory = TookAtMost
+
+-- All bytes to come were taken, and they are the answer; or why not, and what was taken.
+abbrev pub TakesAll : Option Told → Option Told → ℕ → Result (Vec ℕ Global) InputError → Type 0
 TakesAll old new limit (Ok bytes) = (length bytes.items ≤ limit)
     × Both old new (λ o n. TookBytes bytes.items o n × (n.to_come ≡ []))
-TakesAll old new limit (Err ReadFault) = Both old new (TookAtMost limit)
-TakesAll old new limit (Err WriteFault) = ⊥
-TakesAll old new limit (Err Memory) = Both old new (TookAtMost limit)
-TakesAll old new limit (Err TooLong) = Both old new (TookTooMany limit)
-TakesAll old new limit (Err ArchiveFault) = ⊥
+TakesAll old new limit (Err error) = Both old new (TookBefore error limit)
 
 -- which text answers which bytes, and whether they are accepted
 abbrev pub TextOf : Type 1
@@ -60,12 +68,11 @@ AnsweredPart Answers limit old new = (accepted : Bool) × (front : List ℕ) × 
     × (0 < length others) × IsAnswer Answers accepted limit old new (front ++ others) front
 
 -- The whole input was answered by its text, or a prefix of it that is not all if a write failed.
--- If it was not taken whole, or memory ran out, nothing was given.
-abbrev pub AnswersInput : TextOf → Option Told → Option Told → ℕ → Result Bool Stop → Type 0
+-- If it was not taken whole, nothing was given, nor if it was and memory ran out then.
+abbrev pub AnswersInput : TextOf → Option Told → Option Told → ℕ → Result Bool AnswerError → Type 0
 AnswersInput Answers old new limit (Ok accepted) =
     Both old new (AnsweredAll Answers accepted limit)
-AnswersInput Answers old new limit (Err ReadFault) = Both old new (TookAtMost limit)
-AnswersInput Answers old new limit (Err WriteFault) = Both old new (AnsweredPart Answers limit)
-AnswersInput Answers old new limit (Err Memory) = Both old new (TookAtMost limit)
-AnswersInput Answers old new limit (Err TooLong) = Both old new (TookTooMany limit)
-AnswersInput Answers old new limit (Err ArchiveFault) = ⊥
+AnswersInput Answers old new limit (Err (answer.Input error)) =
+    Both old new (TookBefore error limit)
+AnswersInput Answers old new limit (Err answer.Memory) = Both old new (TookAll limit)
+AnswersInput Answers old new limit (Err answer.Write) = Both old new (AnsweredPart Answers limit)

@@ -4,6 +4,9 @@ use Rattle.std.specs.Prelude.{Option, Some, None}
 use Rattle.hex_io.specs.Reported.{Reported}
 use Rattle.hex_io.specs.declared.links.Link as links
 use Rattle.hex_devices.specs.Devices.{Outcome}
+use Rattle.hex_devices.specs.Errors.{stop_of_answer, stop_of_output}
+use Rattle.hex_devices.specs.declared.errors.AnswerError.{AnswerError}
+use Rattle.hex_devices.specs.declared.errors.OutputError.{OutputError}
 use Rattle.hex_devices.specs.declared.stops.Stop.{Stop}
 use Rattle.hex_devices.specs.declared.stops.Stop.TheVariants.{ReadFault, WriteFault, Memory}
 use Rattle.hex_devices.specs.declared.stops.Stop.TheVariants.{TooLong, ArchiveFault}
@@ -16,10 +19,15 @@ end_for (Ok done) = Done
 end_for (Err stop) = Stopped stop
 
 -- how a run ends that answered its whole input, accepted or not, or stopped before
-abbrev pub end_of_answer : Result Bool Stop → End
+abbrev pub end_of_answer : Result Bool AnswerError → End
 end_of_answer (Ok true) = Done
 end_of_answer (Ok false) = Rejected
-end_of_answer (Err stop) = Stopped stop
+end_of_answer (Err error) = Stopped (stop_of_answer error)
+
+-- how a run ends that gave what it owes, or stopped before
+abbrev pub end_of_output : Result (Unit {0}) OutputError → End
+end_of_output (Ok done) = Done
+end_of_output (Err error) = Stopped (stop_of_output error)
 
 -- why a run stopped before its end, if it did
 abbrev pub stop_in : End → Option Stop

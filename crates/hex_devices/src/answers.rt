@@ -1,12 +1,13 @@
 //! Answers the whole input of a link by one text.
 
-ghost use Rattle.std.specs.Prelude.{◌≤◌, ℕ, Bool, List, IfOk, length};
-ghost use Rattle.hex_devices.specs.Devices.{RisesWith};
+ghost use Rattle.std.specs.Prelude.{◌≡◌, ◌≤◌, ℕ, Bool, List, IfOk, length, Err};
+ghost use Rattle.hex_io.specs.Causes.{CountsFault};
 ghost use Rattle.hex_devices.specs.Inputs.{AnswersInput};
+ghost use Rattle.hex_devices.specs.declared.errors.InputError.{InputError};
 
+use crate::errors::AnswerError;
 use crate::giving::give_text;
 use crate::inputs::take_all;
-use crate::stops::Stop;
 use hex_io::Link;
 use std::alloc::{AllocError, Global};
 
@@ -34,26 +35,24 @@ pub trait InputReader {
 /// Takes all that is to come, if it has at most `limit` bytes, and gives the text that answers it.
 /// It says whether the input was accepted. The reader answers so many bytes.
 ///
-/// `ReadFault` and `WriteFault` come only if the link counted that fault, `TooLong` exactly if
-/// `limit + 1` bytes were taken. It refuses otherwise only if memory runs out.
+/// Of the input `Read` comes only if the link counted a fault of a read, and `TooLong` exactly if
+/// `limit + 1` bytes were taken. `Write` comes only if the link counted a fault of a write. It
+/// refuses otherwise only if memory runs out.
 pub fn answer_input<L: Link, R: InputReader>(
     alloc: Global,
     link: &mut L,
     reader: &R,
     limit: usize,
-) -> Result<bool, Stop>
+) -> Result<bool, AnswerError>
     requires { limit ≤ R.most reader.now }
     ensures answers { AnswersInput (R.answers reader.now) (L.told link.old) (L.told link.new) limit
         result }
-    ensures read_fault { RisesWith Stop.ReadFault
-        (L.read_faults link.old) (L.read_faults link.new) result }
-    ensures write_fault { RisesWith Stop.WriteFault
-        (L.write_faults link.old) (L.write_faults link.new) result }
+    ensures read_fault { CountsFault (L.read_faults link.old) (L.read_faults link.new)
+        (result ≡ Err (AnswerError.Input InputError.Read)) }
+    ensures write_fault { CountsFault (L.write_faults link.old) (L.write_faults link.new)
+        (result ≡ Err AnswerError.Write) }
 {
-    let input = match take_all(alloc, link, limit) {
-        Err(stop) => return Err(stop),
-        Ok(input) => input,
-    };
+    let input = take_all(alloc, link, limit)?;
     let answer = reader.answer(alloc, &input)?;
     give_text(link, &answer.text)?;
     Ok(answer.accepted)

@@ -1,8 +1,10 @@
 //! How a run ends: its status, and the line that it gives to the errors.
 
 ghost use Rattle.std.specs.Prelude.{◌≡◌};
-ghost use Rattle.hex_devices.specs.Statuses.{end_for, end_of_answer, status_of, error_line};
+ghost use Rattle.hex_devices.specs.Statuses.{end_for, end_of_answer, end_of_output};
+ghost use Rattle.hex_devices.specs.Statuses.{status_of, error_line};
 
+use crate::errors::{AnswerError, OutputError};
 use crate::stops::Stop;
 
 /// How a run ended.
@@ -30,13 +32,23 @@ impl End {
     }
 
     /// How a run ends that answered its whole input, accepted or not, or stopped before.
-    pub fn of_answer(answer: Result<bool, Stop>) -> End
+    pub fn of_answer(answer: Result<bool, AnswerError>) -> End
         ensures { result ≡ end_of_answer answer }
     {
         match answer {
             Ok(true) => End::Done,
             Ok(false) => End::Rejected,
-            Err(stop) => End::Stopped(stop),
+            Err(error) => End::Stopped(Stop::from(error)),
+        }
+    }
+
+    /// How a run ends that gave what it owes, or stopped before.
+    pub fn of_output(output: Result<(), OutputError>) -> End
+        ensures { result ≡ end_of_output output }
+    {
+        match output {
+            Ok(()) => End::Done,
+            Err(error) => End::Stopped(Stop::from(error)),
         }
     }
 

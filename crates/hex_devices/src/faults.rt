@@ -1,4 +1,4 @@
-//! The refusals of calls that fail in fewer ways than a run.
+//! The faults of the devices: why a call failed that can fail by nothing else.
 
 ghost use Rattle.std.specs.Prelude.{◌≡◌};
 
@@ -31,16 +31,6 @@ impl From<ReadFault> for Stop {
     }
 }
 
-impl From<WriteFault> for Stop {
-    ghost use Rattle.hex_devices.specs.declared.stops.Stop.{Stop};
-
-    ghost from_gives = { λ _ stop. stop ≡ Stop.WriteFault };
-
-    fn from(_fault: WriteFault) -> Stop {
-        Stop::WriteFault
-    }
-}
-
 impl From<WriteFault> for HandingFault {
     ghost use Rattle.hex_devices.specs.declared.faults.HandingFault.{HandingFault};
 
@@ -48,18 +38,5 @@ impl From<WriteFault> for HandingFault {
 
     fn from(_fault: WriteFault) -> HandingFault {
         HandingFault::Write
-    }
-}
-
-impl From<HandingFault> for Stop {
-    ghost use Rattle.hex_devices.specs.Handing.{stop_of_handing};
-
-    ghost from_gives = { λ fault stop. stop ≡ stop_of_handing fault };
-
-    fn from(fault: HandingFault) -> Stop {
-        match fault {
-            HandingFault::Archive => Stop::ArchiveFault,
-            HandingFault::Write => Stop::WriteFault,
-        }
     }
 }

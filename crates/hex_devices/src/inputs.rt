@@ -1,12 +1,11 @@
 //! Takes the input of a link: some of it, or all up to a limit.
 
-ghost use Rattle.std.specs.Prelude.{◌≡◌, ◌<◌, ◌≤◌, length, IfOk};
+ghost use Rattle.std.specs.Prelude.{◌≡◌, ◌<◌, ◌≤◌, length, IfOk, Err};
 ghost use Rattle.hex_io.specs.Told.{ReadsBytes};
-ghost use Rattle.hex_io.specs.Causes.{HasCause};
-ghost use Rattle.hex_devices.specs.Devices.{RisesWith};
+ghost use Rattle.hex_io.specs.Causes.{CountsFault, HasCause};
 ghost use Rattle.hex_devices.specs.Inputs.{TakesAll};
 
-use crate::stops::Stop;
+use crate::errors::InputError;
 use hex_io::{Link, LinkFault};
 use std::alloc::Global;
 
@@ -28,12 +27,12 @@ pub fn read_some<L: Link>(link: &mut L, buffer: &mut [u8], room: usize) -> Resul
 /// Takes all that is to come, if it has at most `limit` bytes. One byte more ends it, as does the
 /// first fault; nothing is read after either.
 ///
-/// `ReadFault` comes only if the link counted a fault, `TooLong` exactly if `limit + 1` bytes were
+/// `Read` comes only if the link counted a fault, `TooLong` exactly if `limit + 1` bytes were
 /// taken. It refuses otherwise only if memory runs out.
-pub fn take_all<L: Link>(alloc: Global, link: &mut L, limit: usize) -> Result<Vec<u8>, Stop>
+pub fn take_all<L: Link>(alloc: Global, link: &mut L, limit: usize) -> Result<Vec<u8>, InputError>
     ensures takes { TakesAll (L.told link.old) (L.told link.new) limit result }
-    ensures read_fault { RisesWith Stop.ReadFault
-        (L.read_faults link.old) (L.read_faults link.new) result }
+    ensures read_fault { CountsFault (L.read_faults link.old) (L.read_faults link.new)
+        (result ≡ Err InputError.Read) }
     ensures writes { L.write_faults link.new ≡ L.write_faults link.old }
 {
     let mut input = Vec::new(alloc);
@@ -41,14 +40,14 @@ pub fn take_all<L: Link>(alloc: Global, link: &mut L, limit: usize) -> Result<Ve
     'pieces: loop {
         let room = buffer.len().min((limit - input.len()).max(1));
         let count = match read_some(link, &mut buffer, room) {
-            Err(_) => return Err(Stop::ReadFault),
+            Err(_) => return Err(InputError::Read),
             Ok(count) => count,
         };
         if count == 0 {
             return Ok(input);
         }
         if input.len() == limit {
-            return Err(Stop::TooLong);
+            return Err(InputError::TooLong);
         }
         input.extend_from_slice(&buffer[..count])?;
     }

@@ -20,7 +20,8 @@
 //! turn that is handed over was taken before the first byte of its text was given ([`hand_over`],
 //! specs/Handing.antt). At a write fault a prefix of its text was given that is not all of it, and
 //! at an archive fault nothing. A count of faults rose with its own fault and is as before with
-//! every other outcome (specs/Devices.antt). No two ends have one status (specs/Statuses.antt).
+//! every other outcome (specs/Devices.antt). Each error is told as one stop (specs/Errors.antt).
+//! No two ends have one status (specs/Statuses.antt).
 //!
 //! **What is only tested, or not said.** That memory suffices. That after a fault nothing is read
 //! or written.
@@ -37,12 +38,13 @@
 //! - Both programs end by [`End`], so one place names each fault, status and line. A run of
 //!   hexmatch has four of these ends, and says so (`IsMatchStatus`).
 //! - How a text was given is told by the relations of hex_io: all of it (`Gave`), or at a write
-//!   fault a prefix that is not all of it (`GaveProperPart`). `GivesText` chooses between them by
-//!   the stop. A whole input's answer has its own, `AnswersInput`, since the same link first gave
-//!   the input.
-//! - What the devices do by themselves refuses only what can happen then: a read by [`ReadFault`],
-//!   a write by [`WriteFault`], a turn that is handed over by [`HandingFault`]. Each becomes a
-//!   [`Stop`] by `?`, and no contract of theirs has a case that can't come.
+//!   fault a prefix that is not all of it (`GaveProperPart`). A whole input's answer has its own,
+//!   `AnswersInput`, since the same link first gave the input.
+//! - Each call fails only by what can come in it, so no definition has a case that can't: a read by
+//!   [`ReadFault`], a write by [`WriteFault`], a turn that is handed over by [`HandingFault`], a
+//!   whole input by [`InputError`], its answer by [`AnswerError`]. [`OutputError`] is that of the
+//!   calls of a session, and of a mode that hands in a turn. Only where a run or a session ends
+//!   does an error become a [`Stop`], by one `From` that says which.
 //! - A mode that takes a whole input is a reader with a ghost relation between the bytes, the text
 //!   and whether they are accepted; so how input is taken, the limit, the faults and the status are
 //!   proved once. The reader says how many bytes it answers, since an audit counts trees in 32
@@ -52,6 +54,7 @@
 mod answers;
 mod devices;
 mod ends;
+mod errors;
 mod faults;
 mod giving;
 mod handing;
@@ -61,6 +64,7 @@ mod stops;
 pub use answers::{InputAnswer, InputReader, answer_input};
 pub use devices::Devices;
 pub use ends::End;
+pub use errors::{AnswerError, InputError, OutputError};
 pub use faults::{HandingFault, ReadFault, WriteFault};
 pub use handing::hand_over;
 pub use inputs::{PIECE, take_all};

@@ -6,24 +6,22 @@ use Rattle.std.proofs.lemmas.List.{take-append-drop}
 use Rattle.hex_io.specs.Told.{Told, Same}
 use Rattle.hex_io.specs.Grew.{Gave, GaveProperPart}
 use Rattle.hex_io.proofs.BothLaws.{Both-weaker}
-use Rattle.hex_io.proofs.GaveLaws.{Gave-then}
+use Rattle.hex_io.proofs.GaveLaws.{Gave-nothing, Gave-then}
 use Rattle.htp_line.specs.Lines.{whole, lines}
 use Rattle.htp_line.specs.Splitting.{SplitterData, Advances, Ends, StandsAfter}
 use Rattle.hex_engine.specs.EngineState.{EngineState}
-use Rattle.htp_session.specs.Sessions.{Does, Holding}
+use Rattle.htp_session.specs.Sessions.{AnswersLast, Does, Holding}
 use Rattle.hex_devices.specs.Devices.{DevicesState, shelf_and_archive}
 use Rattle.htp_session.specs.Calls.Answering.{WritesAnswer}
 use Rattle.htp_session.specs.Calls.Holding.{Passes}
-use Rattle.htp_session.specs.Calls.Session.{AdvancesBy, AnswersEnd, TakesPiece, FeedsUpTo, Feeds}
-use Rattle.htp_session.specs.Calls.Session.{Finishes}
+use Rattle.htp_session.specs.Calls.Session.{AdvancesBy, TakesPiece, FeedsUpTo, Feeds, Finishes}
 use Rattle.htp_session.specs.declared.session.Moved.{Moved}
 use Rattle.htp_session.specs.declared.session.Session.{Session}
-use Rattle.hex_devices.specs.declared.stops.Stop.{Stop}
-use Rattle.hex_devices.specs.declared.stops.Stop.TheVariants.{ReadFault, WriteFault, Memory}
-use Rattle.hex_devices.specs.declared.stops.Stop.TheVariants.{TooLong, ArchiveFault}
+use Rattle.hex_devices.specs.declared.errors.OutputError.{OutputError}
+use Rattle.hex_devices.specs.declared.errors.OutputError.TheVariants as output
 use Rattle.std.specs.Prelude.{Option}
 use Rattle.htp_session.proofs.Advances.{stopped_line, short_line, answered_last, stopped_last}
-use Rattle.htp_session.proofs.Advances.{lacking_last}
+use Rattle.htp_session.proofs.Advances.{lacking_last, no_last}
 use Rattle.htp_session.proofs.Feeding.{rest_of, held_on, held_less, held_all, held_fed, held_quit}
 use Rattle.htp_session.proofs.Feeding.{held_unwritten}
 use Rattle.htp_session.proofs.Feeding.{fed_gave_up, fed_held_back, last_given, last_broke_off}
@@ -31,53 +29,16 @@ use Rattle.htp_session.proofs.Feeding.{fed_gave_up, fed_held_back, last_given, l
 -- ---- a line for which memory or a turn was wanted
 
 pub stopped_advance : (old new : DevicesState) (before after : Session) (engine : EngineState)
-    (held : SplitterData) (piece : List ℕ) (n : ℕ) (out_now : List ℕ) (stop : Stop)
+    (held : SplitterData) (piece : List ℕ) (n : ℕ) (out_now : List ℕ) (error : OutputError)
     → ((seen : List ℕ) → StandsAfter before.splitter seen → Advances held seen (take n piece))
     → held.ended ≡ true
-    → WritesAnswer old new before.engine engine held.line before.out.items out_now (Err stop)
-    → AdvancesBy old new before after piece (Err stop)
-stopped_advance old new before after engine held piece n out_now ReadFault stream ended w = absurd w
-stopped_advance old new before after engine held piece n out_now WriteFault stream ended w = w
-stopped_advance old new before after engine held piece n out_now Memory stream ended w =
+    → WritesAnswer old new before.engine engine held.line before.out.items out_now (Err error)
+    → AdvancesBy old new before after piece (Err error)
+stopped_advance old new before after engine held piece n out_now output.Write stream ended w = w
+stopped_advance old new before after engine held piece n out_now output.Memory stream ended w =
     (w.0, stopped_line (shelf_and_archive old) (shelf_and_archive new) before.engine before.splitter held piece n stream ended w.1)
-stopped_advance old new before after engine held piece n out_now TooLong stream ended w = absurd w
-stopped_advance old new before after engine held piece n out_now ArchiveFault stream ended w =
+stopped_advance old new before after engine held piece n out_now output.Archive stream ended w =
     (w.0, short_line (shelf_and_archive old) (shelf_and_archive new) before.engine before.splitter held piece n stream ended w.1)
-
--- nothing has a front that is not all of it
-no_proper_part : (a b : Option Told) (out : List ℕ) → out ≡ [] → GaveProperPart a b out → ⊥
-no_proper_part a b out none part =
-    let all : 0 ≡ length part.0 + length part.1 =
-    ap length (sym none ∙ part.2) ∙ length-append part.0 part.1 in
-    absurd (omega (arith, all, part.3))
-
-pub stopped_end : (old new : DevicesState) (before after : Session) (engine : EngineState)
-    (held : SplitterData) (out out_now : List ℕ) (stop : Stop) → out ≡ []
-    → ((seen : List ℕ) → StandsAfter before.splitter seen → Ends held.ended held.line (whole seen) (lines seen))
-    → held.ended ≡ true
-    → WritesAnswer old new before.engine engine held.line out out_now (Err stop)
-    → AnswersEnd old new before after (Err stop)
-stopped_end old new before after engine held out out_now ReadFault none stream ended w = absurd w
-stopped_end old new before after engine held out out_now WriteFault none stream ended w =
-    absurd (no_proper_part old.link new.link out none w.0)
-stopped_end old new before after engine held out out_now Memory none stream ended w =
-    (subst (Gave old.link new.link) none w.0, stopped_last (shelf_and_archive old) (shelf_and_archive new) before.engine before.splitter held stream ended w.1)
-stopped_end old new before after engine held out out_now TooLong none stream ended w = absurd w
-stopped_end old new before after engine held out out_now ArchiveFault none stream ended w =
-    (subst (Gave old.link new.link) none w.0, lacking_last (shelf_and_archive old) (shelf_and_archive new) before.engine before.splitter held stream ended w.1)
-
-pub last_answered : (old new : DevicesState) (before after : Session) (held : SplitterData)
-    (out : List ℕ) (quit : Bool) → out ≡ []
-    → ((seen : List ℕ) → StandsAfter before.splitter seen → Ends held.ended held.line (whole seen) (lines seen))
-    → held.ended ≡ true
-    → WritesAnswer old new before.engine after.engine held.line out after.out.items (Ok quit)
-    → AnswersEnd old new before after (Ok tt)
-last_answered old new before after held out quit none stream ended w = (
-  w.0,
-  subst (λ l. Passes old.link new.link l w.0 after.out.items) none w.1,
-  answered_last (shelf_and_archive old)
-      (shelf_and_archive new) before.engine after.engine before.splitter held w.0 quit stream ended w.2,
-)
 
 -- ---- a piece
 
@@ -93,7 +54,7 @@ pub take_unwritten : (old mid new : DevicesState) (before : Session) (engine : E
     (held : SplitterData) (out piece : List ℕ) (at : ℕ)
     → HoldsTo old mid before out engine held (take at piece)
     → GaveProperPart mid.link new.link out → shelf_and_archive new ≡ shelf_and_archive mid
-    → FeedsUpTo old new before piece WriteFault
+    → FeedsUpTo old new before piece output.Write
 take_unwritten old mid new before engine held out piece at holds part same =
     rw same (held_unwritten old.link mid.link new.link (shelf_and_archive old) (shelf_and_archive mid) before.engine engine before.splitter held out
     (take at piece) (drop at piece) piece false (take-append-drop at piece) holds part)
@@ -109,19 +70,17 @@ take_relieved old mid new before engine held out out_now front holds pass same =
 
 -- the next line was not answered
 pub take_stopped : (old mid new : DevicesState) (before session after : Session)
-    (piece : List ℕ) (at : ℕ) (stop : Stop)
+    (piece : List ℕ) (at : ℕ) (error : OutputError)
     → HoldsTo old mid before session.out.items session.engine session.splitter (take at piece)
-    → AdvancesBy mid new session after (rest_of piece at) (Err stop)
-    → FeedsUpTo old new before piece stop
-take_stopped old mid new before session after piece at ReadFault holds a = absurd a
-take_stopped old mid new before session after piece at WriteFault holds a =
+    → AdvancesBy mid new session after (rest_of piece at) (Err error)
+    → FeedsUpTo old new before piece error
+take_stopped old mid new before session after piece at output.Write holds a =
     take_unwritten old mid new before session.engine session.splitter session.out.items piece at holds a.0 a.1
-take_stopped old mid new before session after piece at Memory holds a =
+take_stopped old mid new before session after piece at output.Memory holds a =
     fed_gave_up old.link new.link (shelf_and_archive old) (shelf_and_archive mid)
     (shelf_and_archive new) before.engine session.engine before.splitter session.splitter piece at
     (held_all old.link mid.link new.link (shelf_and_archive old) (shelf_and_archive mid) before.engine session.engine before.splitter session.splitter session.out.items (take at piece) holds a.0) a.1
-take_stopped old mid new before session after piece at TooLong holds a = absurd a
-take_stopped old mid new before session after piece at ArchiveFault holds a =
+take_stopped old mid new before session after piece at output.Archive holds a =
     fed_held_back old.link new.link (shelf_and_archive old) (shelf_and_archive mid)
     (shelf_and_archive new) before.engine session.engine before.splitter session.splitter piece at
     (held_all old.link mid.link new.link (shelf_and_archive old) (shelf_and_archive mid) before.engine session.engine before.splitter session.splitter session.out.items (take at piece) holds a.0) a.1
@@ -180,37 +139,85 @@ fed_given old mid new before after given piece quit t gave same engine splitter 
 pub fed_unwritten : (old mid new : DevicesState) (before after : Session) (piece : List ℕ)
     (quit : Bool) → TakesPiece old mid before after piece (Ok quit)
     → GaveProperPart mid.link new.link after.out.items
-    → shelf_and_archive new ≡ shelf_and_archive mid → FeedsUpTo old new before piece WriteFault
+    → shelf_and_archive new ≡ shelf_and_archive mid → FeedsUpTo old new before piece output.Write
 fed_unwritten old mid new before after piece quit t part same =
     rw same (held_unwritten old.link mid.link new.link (shelf_and_archive old) (shelf_and_archive mid) before.engine after.engine before.splitter after.splitter after.out.items
     piece [] piece quit (append-nil piece) t part)
 
 -- ---- the last line
 
--- where no byte was given, nothing changed
+-- what comes of the last line, if there is one
+abbrev pub EndsLast : Session → SplitterData → Type 0
+EndsLast before held = (seen : List ℕ) → StandsAfter before.splitter seen
+    → Ends held.ended held.line (whole seen) (lines seen)
+
+-- if there is none nothing was done
+pub no_last_line : (now : DevicesState) (before : Session) (held : SplitterData)
+    → EndsLast before held → held.ended ≡ false → Finishes now now before (Ok tt)
+no_last_line now before held stream ended =
+    last_given now.link now.link (shelf_and_archive now) (shelf_and_archive now) before.engine before.splitter []
+    (no_last (shelf_and_archive now) before.engine before.splitter held stream ended) (Gave-nothing now.link)
+
+-- if no byte was given, nothing changed
 gave_nothing : (a b : Option Told) → Gave a b [] → Same a b
 gave_nothing a b p =
     Both-weaker a b _ _ (λ x y e. e ∙ ap (λ l. record x { given = l }) (append-nil x.given)) p
 
-pub end_stopped : (old new : DevicesState) (before after : Session) (stop : Stop)
-    → AnswersEnd old new before after (Err stop) → Finishes old new before (Err stop)
-end_stopped old new before after ReadFault a = absurd a
-end_stopped old new before after WriteFault a = absurd a
-end_stopped old new before after Memory a = (gave_nothing old.link new.link a.0, a.1)
-end_stopped old new before after TooLong a = absurd a
-end_stopped old new before after ArchiveFault a = (gave_nothing old.link new.link a.0, a.1)
+gave_none : (a b : Option Told) (out : List ℕ) → out ≡ [] → Gave a b out → Same a b
+gave_none a b out none gave = gave_nothing a b (subst (Gave a b) none gave)
 
-pub end_given : (old mid new : DevicesState) (before after : Session)
-    → AnswersEnd old mid before after (Ok tt) → Gave mid.link new.link after.out.items
+-- nothing has a prefix that is not all of it
+no_proper_part : (a b : Option Told) (out : List ℕ) → out ≡ [] → GaveProperPart a b out → ⊥
+no_proper_part a b out none part =
+    let all : 0 ≡ length part.0 + length part.1 =
+    ap length (sym none ∙ part.2) ∙ length-append part.0 part.1 in
+    absurd (omega (arith, all, part.3))
+
+-- with nothing held before it, it was not answered
+pub end_stopped : (old new : DevicesState) (before : Session) (engine : EngineState)
+    (held : SplitterData) (out out_now : List ℕ) (error : OutputError) → out ≡ []
+    → EndsLast before held → held.ended ≡ true
+    → WritesAnswer old new before.engine engine held.line out out_now (Err error)
+    → Finishes old new before (Err error)
+end_stopped old new before engine held out out_now output.Write none stream ended w =
+    absurd (no_proper_part old.link new.link out none w.0)
+end_stopped old new before engine held out out_now output.Memory none stream ended w =
+    (gave_none old.link new.link out none w.0, stopped_last (shelf_and_archive old) (shelf_and_archive new) before.engine before.splitter held stream ended w.1)
+end_stopped old new before engine held out out_now output.Archive none stream ended w =
+    (gave_none old.link new.link out none w.0, lacking_last (shelf_and_archive old) (shelf_and_archive new) before.engine before.splitter held stream ended w.1)
+
+-- it was answered: some of the answer was given, and the rest is held
+abbrev pub HoldsLast : DevicesState → DevicesState → Session → List ℕ → Type 0
+HoldsLast old new before out =
+    (bytes : List ℕ) × Passes old.link new.link [] bytes out
+    × Does (shelf_and_archive old) (shelf_and_archive new) [] before.engine before.splitter
+    (λ start all later seen. AnswersLast start all later bytes seen)
+
+pub end_answered : (old new : DevicesState) (before : Session) (engine : EngineState)
+    (held : SplitterData) (out out_now : List ℕ) (quit : Bool) → out ≡ []
+    → EndsLast before held → held.ended ≡ true
+    → WritesAnswer old new before.engine engine held.line out out_now (Ok quit)
+    → HoldsLast old new before out_now
+end_answered old new before engine held out out_now quit none stream ended w = (
+  w.0,
+  subst (λ l. Passes old.link new.link l w.0 out_now) none w.1,
+  answered_last (shelf_and_archive old)
+      (shelf_and_archive new) before.engine engine before.splitter held w.0 quit stream ended w.2,
+)
+
+-- the rest was given
+pub end_given : (old mid new : DevicesState) (before : Session) (out : List ℕ)
+    → HoldsLast old mid before out → Gave mid.link new.link out
     → shelf_and_archive new ≡ shelf_and_archive mid → Finishes old new before (Ok tt)
-end_given old mid new before after a gave same =
+end_given old mid new before out a gave same =
     rw same (last_given old.link new.link (shelf_and_archive old) (shelf_and_archive mid) before.engine before.splitter a.0 a.2
-    (subst (Gave old.link new.link) (sym a.1.1) (Gave-then old.link mid.link new.link a.1.0 after.out.items a.1.2 gave)))
+    (subst (Gave old.link new.link) (sym a.1.1) (Gave-then old.link mid.link new.link a.1.0 out a.1.2 gave)))
 
-pub end_unwritten : (old mid new : DevicesState) (before after : Session)
-    → AnswersEnd old mid before after (Ok tt) → GaveProperPart mid.link new.link after.out.items
-    → shelf_and_archive new ≡ shelf_and_archive mid → Finishes old new before (Err WriteFault)
-end_unwritten old mid new before after a part same =
+-- or a prefix of it
+pub end_unwritten : (old mid new : DevicesState) (before : Session) (out : List ℕ)
+    → HoldsLast old mid before out → GaveProperPart mid.link new.link out
+    → shelf_and_archive new ≡ shelf_and_archive mid → Finishes old new before (Err output.Write)
+end_unwritten old mid new before out a part same =
     let given = a.1.0 in
     rw same (last_broke_off old.link new.link (shelf_and_archive old) (shelf_and_archive mid) before.engine before.splitter a.0 a.2 (
       given ++ part.0,

@@ -17,7 +17,9 @@ use Rattle.hex_engine.specs.Uses.{Answered}
 use Rattle.hex_engine.specs.declared.answers.Answer.{Answer}
 use Rattle.hex_engine.specs.declared.answers.EngineError.{EngineError}
 use Rattle.hex_engine.specs.declared.answers.EngineError.TheVariants as engine
-use Rattle.hex_devices.specs.Devices.{CountsStop, DevicesState, shelf_and_archive}
+use Rattle.hex_devices.specs.Devices.{CountsStop, DevicesState, shelf_and_archive, stop_as}
+use Rattle.hex_devices.specs.declared.errors.OutputError.{OutputError}
+use Rattle.hex_devices.specs.declared.errors.OutputError.TheVariants as output
 use Rattle.hex_devices.specs.declared.stops.Stop.{Stop}
 use Rattle.hex_devices.specs.declared.stops.Stop.TheVariants.{ReadFault, WriteFault, Memory}
 use Rattle.hex_devices.specs.declared.stops.Stop.TheVariants.{ArchiveFault}
@@ -25,7 +27,7 @@ use Rattle.htp_session.specs.Talk.{TalkState, Going, after_reaction, after_readi
 use Rattle.htp_session.specs.Talk.{is_quit, reply_text}
 use Rattle.htp_session.specs.Usage.{AnswersWith, Wants, UsesUpNothing}
 use Rattle.htp_session.specs.Calls.Answering.{Speaks, SpeaksToRequest, Writes, WritesReply}
-use Rattle.htp_session.specs.Calls.Asking.{Asks, Replies, stop_in_asking, stop_of_engine}
+use Rattle.htp_session.specs.Calls.Asking.{Asks, Replies, output_of_engine, stop_of_engine}
 use Rattle.htp_session.specs.declared.answering.Said.{Said}
 use Rattle.htp_session.specs.declared.answering.Said.TheVariants.{Whole, Open}
 use Rattle.htp_session.proofs.Advances.{says_nothing_used, nothing_used}
@@ -78,7 +80,7 @@ held_whole d before after says held held_now quit s = (
 -- what a request comes to, the line comes to
 pub written_line : (old new : DevicesState) (before mid after : EngineState)
     (says : Supply → TalkState) (held held_mid held_now : List ℕ) (request : Request)
-    (result : Result Bool Stop)
+    (result : Result Bool OutputError)
     → Speaks before mid says held held_mid (Open request)
     → WritesReply old new mid after request held_mid held_now result
     → Writes old new before after says held held_now result
@@ -93,7 +95,7 @@ written_line old new before mid after says held held_mid held_now request result
 pub ran_out : (old new : DevicesState) (before after : EngineState) (says : Supply → TalkState)
     (held held_mid held_now : List ℕ) → held_mid ≡ held → Gave old.link new.link held_mid
     → shelf_and_archive new ≡ shelf_and_archive old
-    → Writes old new before after says held held_now (Err Memory)
+    → Writes old new before after says held held_now (Err output.Memory)
 ran_out old new before after says held held_mid held_now is gave same = (
   subst (Gave old.link new.link) is gave,
   subst (UsesUpNothing before.options (shelf_and_archive old)) (sym same)
@@ -103,7 +105,7 @@ ran_out old new before after says held held_mid held_now is gave same = (
 pub ran_out_unwritten : (old new : DevicesState) (before after : EngineState)
     (says : Supply → TalkState) (held held_mid held_now : List ℕ) → held_mid ≡ held
     → GaveProperPart old.link new.link held_mid → shelf_and_archive new ≡ shelf_and_archive old
-    → Writes old new before after says held held_now (Err WriteFault)
+    → Writes old new before after says held held_now (Err output.Write)
 ran_out_unwritten old new before after says held held_mid held_now is part same =
     (subst (GaveProperPart old.link new.link) is part, same)
 
@@ -125,7 +127,7 @@ pub unreplied_after : (old mid new : DevicesState) (before after : EngineState)
     (request : Request) (held none held_now : List ℕ) (error : EngineError)
     → Gave old.link mid.link held → shelf_and_archive mid ≡ shelf_and_archive old
     → new.link ≡ mid.link → Replies mid new before after request none held_now (Err error)
-    → WritesReply old new before after request held held_now (Err (stop_of_engine error))
+    → WritesReply old new before after request held held_now (Err (output_of_engine error))
 unreplied_after old mid new before after request held none held_now engine.Memory gave same link r = (
   subst (λ l. Gave old.link l held) (sym link) gave,
   subst (λ a. UsesUpNothing before.options a (shelf_and_archive new)) same r,
@@ -166,7 +168,7 @@ count_kept a b t stop same none =
 pub asked_counts : (old new : DevicesState) (result : Result Answer EngineError)
     → new.read_faults ≡ old.read_faults → new.write_faults ≡ old.write_faults
     → CountsFault old.archive_faults new.archive_faults (result ≡ Err engine.Archive)
-    → new.names ≡ old.names → CountsStop old new (stop_in_asking result)
+    → new.names ≡ old.names → CountsStop old new (stop_as stop_of_engine result)
 asked_counts old new (Ok answer) reads writes archives names = record {
   reads = count_kept _ _ ReadFault None reads (λ e. cc);
   writes = count_kept _ _ WriteFault None writes (λ e. cc);

@@ -5,13 +5,14 @@ ghost use Rattle.std.specs.Prelude.{OnOk, OnErr, option_map, false, Some};
 ghost use Rattle.htp_line.specs.Answering.{failure, WritesFor, HasSpareRoom};
 ghost use Rattle.hex_engine.specs.Requests.{IsBrief, replied};
 ghost use Rattle.htp_session.specs.Talk.{reply_text, is_quit};
-ghost use Rattle.hex_devices.specs.Devices.{CountsFaults};
+ghost use Rattle.hex_devices.specs.Devices.{CountsAs};
+ghost use Rattle.hex_devices.specs.Errors.{stop_of_output};
 ghost use Rattle.htp_session.specs.Calls.Answering.{SpeaksTo, SpeaksToRequest, WritesAnswer};
 ghost use Rattle.htp_session.specs.declared.answering.Said.{Said};
 
 use crate::asking::respond_to;
 use crate::holding::give_held;
-use hex_devices::{Devices, Stop};
+use hex_devices::{Devices, OutputError};
 use hex_engine::{Answer, Engine, Fail, Memory};
 use hex_io::{Link, Shelf};
 use hex_plan::Archive;
@@ -43,11 +44,11 @@ pub fn respond<L: Link, F: Shelf, A: Archive, R: Threads + Sync, G: Gate + Sync>
     devices: &mut Devices<'_, '_, '_, '_, L, F, A, R, G>,
     raw: Option<&[u8]>,
     out: &mut Vec<u8>,
-) -> Result<bool, Stop>
+) -> Result<bool, OutputError>
     requires short { IfSome raw (λ raw. length raw.now ≤ LINE_LIMIT) }
     ensures writes { WritesAnswer devices.old devices.new engine.old engine.new
         (option_map (λ raw. raw.now) raw.entry) out.old.items out.new.items result }
-    ensures counts { CountsFaults devices.old devices.new result }
+    ensures counts { CountsAs stop_of_output devices.old devices.new result }
 {
     match say(alloc, engine, raw, out) {
         Ok(said) => match said {
@@ -56,7 +57,7 @@ pub fn respond<L: Link, F: Shelf, A: Archive, R: Threads + Sync, G: Gate + Sync>
         },
         Err(_) => {
             give_held(devices, out)?;
-            Err(Stop::Memory)
+            Err(OutputError::Memory)
         }
     }
 }

@@ -1,13 +1,14 @@
 //! Asks the engine for an answer, over the devices.
 
 ghost use Rattle.std.specs.Prelude.{◌≡◌};
-ghost use Rattle.hex_devices.specs.Devices.{CountsFaults, CountsStop};
+ghost use Rattle.hex_devices.specs.Devices.{CountsAs};
+ghost use Rattle.hex_devices.specs.Errors.{stop_of_output};
 ghost use Rattle.htp_session.specs.Calls.Answering.{WritesReply};
-ghost use Rattle.htp_session.specs.Calls.Asking.{Asks, Replies, stop_of_engine, stop_in_asking};
+ghost use Rattle.htp_session.specs.Calls.Asking.{Asks, Replies, output_of_engine, stop_of_engine};
 
 use crate::answering::{BRIEF, push_answer};
 use crate::holding::give_held;
-use hex_devices::{Devices, Stop};
+use hex_devices::{Devices, OutputError};
 use hex_engine::{Answer, Engine, EngineError};
 use hex_io::{Link, Shelf};
 use hex_plan::Archive;
@@ -16,13 +17,13 @@ use search_team::Gate;
 use std::alloc::Global;
 use std::thread::Threads;
 
-/// Why a session stops whose engine gave no answer.
-fn stop_for(error: EngineError) -> Stop
-    ensures { result ≡ stop_of_engine error }
+/// Why nothing is given for a request to which the engine gave no answer.
+fn output_error(error: EngineError) -> OutputError
+    ensures { result ≡ output_of_engine error }
 {
     match error {
-        EngineError::Memory => Stop::Memory,
-        EngineError::Archive => Stop::ArchiveFault,
+        EngineError::Memory => OutputError::Memory,
+        EngineError::Archive => OutputError::Archive,
     }
 }
 
@@ -34,14 +35,14 @@ pub fn respond_to<L: Link, F: Shelf, A: Archive, R: Threads + Sync, G: Gate + Sy
     devices: &mut Devices<'_, '_, '_, '_, L, F, A, R, G>,
     request: &Request,
     out: &mut Vec<u8>,
-) -> Result<bool, Stop>
+) -> Result<bool, OutputError>
     ensures writes { WritesReply devices.old devices.new engine.old engine.new
         request.now out.old.items out.new.items result }
-    ensures counts { CountsFaults devices.old devices.new result }
+    ensures counts { CountsAs stop_of_output devices.old devices.new result }
 {
     give_held(devices, out)?;
     match reply(alloc, engine, devices, request, out) {
-        Err(error) => Err(stop_for(error)),
+        Err(error) => Err(output_error(error)),
         Ok(quit) => Ok(quit),
     }
 }
@@ -59,7 +60,7 @@ fn reply<L: Link, F: Shelf, A: Archive, R: Threads + Sync, G: Gate + Sync>(
     ensures replies { Replies devices.old devices.new engine.old engine.new
         request.now out.old.items out.new.items result }
     ensures link { devices.new.link ≡ devices.old.link }
-    ensures counts { CountsStop devices.old devices.new (stop_in_asking result) }
+    ensures counts { CountsAs stop_of_engine devices.old devices.new result }
 {
     let id = id_text(alloc, request.id)?;
     out.reserve(id.len() + BRIEF)?;
@@ -75,7 +76,7 @@ fn ask<L: Link, F: Shelf, A: Archive, R: Threads + Sync, G: Gate + Sync>(
 ) -> Result<Answer, EngineError>
     ensures asks { Asks devices.old devices.new engine.old engine.new request.now result }
     ensures link { devices.new.link ≡ devices.old.link }
-    ensures counts { CountsStop devices.old devices.new (stop_in_asking result) }
+    ensures counts { CountsAs stop_of_engine devices.old devices.new result }
 {
     engine.line(
         devices.rt,

@@ -39,7 +39,7 @@ pub fn converse<L: Link, F: Shelf, A: Archive, R: Threads + Sync, G: Gate + Sync
         let room = buffer.len().min((limit - total).max(1));
         let count = devices.read(&mut buffer, room)?;
         if count == 0 {
-            return session.finish(alloc, devices);
+            return Ok(session.finish(alloc, devices)?);
         }
         if total == limit {
             return Err(Stop::TooLong);

@@ -4,12 +4,13 @@ ghost use Rattle.std.specs.Prelude.{◌≡◌, ◌<◌, ◌≤◌, length, IfOk,
 ghost use Rattle.tree_words.specs.Settings.{AreInRange};
 ghost use Rattle.hex_engine.specs.EngineState.{opening};
 ghost use Rattle.hex_engine.specs.Supply.{Supply};
-ghost use Rattle.hex_devices.specs.Devices.{CountsFaults};
+ghost use Rattle.hex_devices.specs.Devices.{CountsAs};
+ghost use Rattle.hex_devices.specs.Errors.{stop_of_output};
 
 use crate::answering::respond;
 use crate::holding::{give_held, relieve};
 use hex_cells::Size;
-use hex_devices::{Devices, Stop};
+use hex_devices::{Devices, OutputError};
 use hex_engine::{Engine, Memory, Options};
 use hex_io::{Link, Shelf};
 use hex_plan::Archive;
@@ -36,7 +37,7 @@ pub struct Session {
 impl Session {
     ghost use Rattle.htp_session.specs.Sessions.{IsSessionAfter};
     ghost use Rattle.htp_session.specs.Calls.Answering.{WritesAnswer};
-    ghost use Rattle.htp_session.specs.Calls.Session.{AdvancesBy, AnswersEnd, TakesPiece};
+    ghost use Rattle.htp_session.specs.Calls.Session.{AdvancesBy, TakesPiece};
 
     /// A session before its first byte.
     pub fn make(alloc: Global, options: &Options, size: Size) -> Result<Session, Memory>
@@ -61,12 +62,12 @@ impl Session {
         &mut self,
         alloc: Global,
         devices: &mut Devices<'_, '_, '_, '_, L, F, A, R, G>,
-    ) -> Result<bool, Stop>
+    ) -> Result<bool, OutputError>
         requires ended { self.old.splitter.ended ≡ true }
         ensures writes { WritesAnswer devices.old devices.new self.old.engine self.new.engine
             self.old.splitter.line self.old.out.items self.new.out.items result }
         ensures splitter { self.new.splitter ≡ self.old.splitter }
-        ensures counts { CountsFaults devices.old devices.new result }
+        ensures counts { CountsAs stop_of_output devices.old devices.new result }
     {
         let raw = self.splitter.line();
         respond(alloc, &mut self.engine, devices, raw, &mut self.out)
@@ -78,11 +79,11 @@ impl Session {
         alloc: Global,
         devices: &mut Devices<'_, '_, '_, '_, L, F, A, R, G>,
         piece: &[u8],
-    ) -> Result<Moved, Stop>
+    ) -> Result<Moved, OutputError>
         requires some { 0 < length piece.now }
         ensures used { IfOk result (λ m. (0 < m.used) × (m.used ≤ length piece.now)) }
         ensures advances { AdvancesBy devices.old devices.new self.old self.new piece.now result }
-        ensures counts { CountsFaults devices.old devices.new result }
+        ensures counts { CountsAs stop_of_output devices.old devices.new result }
     {
         let fed = self.splitter.push(piece);
         if !fed.ended {
@@ -105,9 +106,9 @@ impl Session {
         alloc: Global,
         devices: &mut Devices<'_, '_, '_, '_, L, F, A, R, G>,
         piece: &[u8],
-    ) -> Result<bool, Stop>
+    ) -> Result<bool, OutputError>
         ensures takes { TakesPiece devices.old devices.new self.old self.new piece.now result }
-        ensures counts { CountsFaults devices.old devices.new result }
+        ensures counts { CountsAs stop_of_output devices.old devices.new result }
     {
         self.out.clear();
         let mut at = 0;
@@ -120,23 +121,6 @@ impl Session {
             at += moved.used;
         }
         Ok(false)
-    }
-
-    /// Takes the last line, if no line feed ends it. Its answer is held then.
-    fn last<L: Link, F: Shelf, A: Archive, R: Threads + Sync, G: Gate + Sync>(
-        &mut self,
-        alloc: Global,
-        devices: &mut Devices<'_, '_, '_, '_, L, F, A, R, G>,
-    ) -> Result<(), Stop>
-        ensures answers { AnswersEnd devices.old devices.new self.old self.new result }
-        ensures counts { CountsFaults devices.old devices.new result }
-    {
-        self.out.clear();
-        if !self.splitter.finish() {
-            return Ok(());
-        }
-        self.answer(alloc, devices)?;
-        Ok(())
     }
 }
 
@@ -151,9 +135,9 @@ impl Session {
         alloc: Global,
         devices: &mut Devices<'_, '_, '_, '_, L, F, A, R, G>,
         piece: &[u8],
-    ) -> Result<bool, Stop>
+    ) -> Result<bool, OutputError>
         ensures feeds { Feeds devices.old devices.new self.old self.new piece.now result }
-        ensures counts { CountsFaults devices.old devices.new result }
+        ensures counts { CountsAs stop_of_output devices.old devices.new result }
     {
         let quit = self.take(alloc, devices, piece)?;
         give_held(devices, &mut self.out)?;
@@ -165,11 +149,15 @@ impl Session {
         &mut self,
         alloc: Global,
         devices: &mut Devices<'_, '_, '_, '_, L, F, A, R, G>,
-    ) -> Result<(), Stop>
+    ) -> Result<(), OutputError>
         ensures finishes { Finishes devices.old devices.new self.old result }
-        ensures counts { CountsFaults devices.old devices.new result }
+        ensures counts { CountsAs stop_of_output devices.old devices.new result }
     {
-        self.last(alloc, devices)?;
+        self.out.clear();
+        if !self.splitter.finish() {
+            return Ok(());
+        }
+        self.answer(alloc, devices)?;
         Ok(give_held(devices, &mut self.out)?)
     }
 }

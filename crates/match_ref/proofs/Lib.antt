@@ -3,8 +3,7 @@
 -- 1. What is claimed: src/matches.rt, laws.rt; specs/Matches.antt (the match game), Dealt.antt (the
 --    games by number). Of the run: src/running.rt; src/table.rt (the options),
 --    specs/MatchTable.antt and MatchWords.antt (what the words ask for), MatchTexts.antt (the
---    text), MatchRuns.antt (what stands at each end), over hex_devices' specs/Statuses.antt and
---    Giving.antt.
+--    text), MatchRuns.antt (what stands at each end), over hex_devices' specs/Statuses.antt.
 -- 2. One game: src/playing.rt, proofs/Legal: the loop's invariant is what follows of the game from
 --    here on, so a turn is one step of the definition. Side by side: src/halves.rt, proofs/Dealing:
 --    each half has every other game, and two halves dealt in turn are all.

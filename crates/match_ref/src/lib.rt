@@ -37,6 +37,8 @@
 //!   holds for any numbers of games and threads.
 //! - The match game is a relation between a number and a game, as a good turn is; that it
 //!   determines the game is a law of its own.
+//! - What can come of a match is that its text was given, or one of two errors (`MatchError`). What
+//!   the words may add to that, a usage, is said beside it: so `Referees` has a row for each end.
 //! - The record of a game is made from a game that takes its steps again on the empty board. An
 //!   option of the sides is one line of the table with two names. hexmatch says `hexd: usage`, so
 //!   that scripts look for one line.

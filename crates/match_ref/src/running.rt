@@ -1,18 +1,20 @@
 //! The top call: from the words of the command line to a status.
 
-ghost use Rattle.std.specs.Prelude.{◌≡◌, ◌⊎◌};
+ghost use Rattle.std.specs.Prelude.{◌≡◌, ◌⊎◌, Err};
 ghost use Rattle.hex_io.specs.Causes.{CountsFault};
 ghost use Rattle.hex_devices.specs.Statuses.{Reports, status_of};
 ghost use Rattle.hex_devices.specs.declared.ends.End.TheVariants.{Stopped};
 ghost use Rattle.hex_devices.specs.declared.stops.Stop.TheVariants.{WriteFault, Memory};
 ghost use Rattle.match_ref.specs.MatchRuns.{CompletesMatch, CountsMatchWrites, IsMatchRefusal};
 ghost use Rattle.match_ref.specs.MatchRuns.{IsMatchStatus, LeavesLink, Referees, RefereesBy};
-ghost use Rattle.match_ref.specs.MatchWords.{AskForNone, AskFor};
-ghost use Rattle.match_ref.specs.declared.words.MatchWords.{MatchWords};
+ghost use Rattle.match_ref.specs.MatchRuns.{RefereesTo, end_of_match};
+ghost use Rattle.match_ref.specs.MatchWords.{AskForNone};
+ghost use Rattle.match_ref.specs.Matches.{IsMatch};
 
 use super::matches::play_match;
+use super::refusals::MatchError;
 use super::texts::match_text;
-use super::words::read_match_words;
+use super::words::{MatchWords, read_match_words};
 use hex_devices::{End, Stop};
 use hex_io::{Link, Word, give, report};
 use search_team::Gate;
@@ -52,13 +54,13 @@ pub fn run_match<R: Threads + Sync, L: Link, E: Link, G: Gate + Sync>(
     ensures complete { CompletesMatch L.Link words.now result link.old link.new }
     ensures errors { Reports E.Link result errors.old errors.new }
 {
-    let end = referee(rt, alloc, words, link, gate);
+    let end = serve(rt, alloc, words, link, gate);
     report(errors, end.line());
     end.status()
 }
 
-// The match of the words, and how it ended.
-fn referee<R: Threads + Sync, L: Link, G: Gate + Sync>(
+// Does what the words ask for, and tells how the run ended.
+fn serve<R: Threads + Sync, L: Link, G: Gate + Sync>(
     rt: &R,
     alloc: Global,
     words: &[Word],
@@ -70,25 +72,45 @@ fn referee<R: Threads + Sync, L: Link, G: Gate + Sync>(
     ensures refused { AskForNone words.now → (result ≡ End.Usage) ⊎ (result ≡ Stopped Memory) }
     ensures untouched { (result ≡ End.Usage) ⊎ (result ≡ Stopped Memory)
         → L.told link.new ≡ L.told link.old }
-    ensures played { (w : MatchWords) → AskFor words.now w
-        → Referees result w (L.told link.old) (L.told link.new) }
+    ensures played { RefereesTo words.now result (L.told link.old) (L.told link.new) }
     ensures write_fault { CountsFault (L.write_faults link.old) (L.write_faults link.new)
         (result ≡ Stopped WriteFault) }
     ensures reads { L.read_faults link.new ≡ L.read_faults link.old }
 {
-    let asked = match read_match_words(alloc, words) {
-        Ok(Some(asked)) => asked,
-        Ok(None) => return End::Usage,
-        Err(_) => return End::Stopped(Stop::Memory),
-    };
-    let Ok(games) = play_match(rt, alloc, &asked.setup, gate) else {
-        return End::Stopped(Stop::Memory);
-    };
-    let Ok(text) = match_text(alloc, &asked, &games) else {
-        return End::Stopped(Stop::Memory);
-    };
-    match give(link, &text) {
-        Ok(()) => End::Done,
-        Err(_) => End::Stopped(Stop::WriteFault),
+    match read_match_words(alloc, words) {
+        Ok(Some(asked)) => end_of(referee(rt, alloc, &asked, link, gate)),
+        Ok(None) => End::Usage,
+        Err(_) => End::Stopped(Stop::Memory),
     }
+}
+
+// How a run ends whose match ended so.
+fn end_of(outcome: Result<(), MatchError>) -> End
+    ensures { result ≡ end_of_match outcome }
+{
+    match outcome {
+        Ok(()) => End::Done,
+        Err(MatchError::Memory) => End::Stopped(Stop::Memory),
+        Err(MatchError::Write) => End::Stopped(Stop::WriteFault),
+    }
+}
+
+// Plays the match, and gives its text.
+fn referee<R: Threads + Sync, L: Link, G: Gate + Sync>(
+    rt: &R,
+    alloc: Global,
+    asked: &MatchWords,
+    link: &mut L,
+    gate: &G,
+) -> Result<(), MatchError>
+    requires { IsMatch asked.now.setup }
+    ensures referees { Referees result asked.now (L.told link.old) (L.told link.new) }
+    ensures write_fault { CountsFault (L.write_faults link.old) (L.write_faults link.new)
+        (result ≡ Err MatchError.Write) }
+    ensures reads { L.read_faults link.new ≡ L.read_faults link.old }
+{
+    let games = play_match(rt, alloc, &asked.setup, gate)?;
+    let text = match_text(alloc, asked, &games)?;
+    give(link, &text)?;
+    Ok(())
 }

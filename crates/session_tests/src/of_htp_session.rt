@@ -5,7 +5,7 @@ ghost use Rattle.std.specs.Prelude.{◌≡◌, ◌^◌};
 ghost use Rattle.tree_words.specs.Settings.{AreInRange};
 
 use hex_cells::Size;
-use hex_devices::{Devices, InputAnswer, InputReader, Stop, answer_input};
+use hex_devices::{AnswerError, Devices, InputAnswer, InputError, InputReader, Stop, answer_input};
 use hex_engine::Options;
 use hex_io::{MemLink, MemShelf};
 use hex_plan::NoArchive;
@@ -151,9 +151,10 @@ impl InputReader for Echo {
 #[test]
 fn whole_inputs(rt: HostRuntime) -> Result<(), Fail> {
     let alloc = rt.alloc();
-    let rows: [(usize, Result<bool, Stop>, &[u8]); 2] = [
+    let too_long = AnswerError::Input(InputError::TooLong);
+    let rows: [(usize, Result<bool, AnswerError>, &[u8]); 2] = [
         (4, Ok(true), b"name"),
-        (3, Err(Stop::TooLong), b""),
+        (3, Err(too_long), b""),
     ];
     for (limit, outcome, given) in rows {
         let (reads, writes) = (Vec::new(alloc), Vec::new(alloc));

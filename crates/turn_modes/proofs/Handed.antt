@@ -1,20 +1,20 @@
 -- A turn that was handed over with its text.
-use Rattle.std.proofs.Common.{◌≡◌, ℕ, List, Option, Ok, Err, Result, refl, sym, subst}
+use Rattle.std.proofs.Common.{◌≡◌, ℕ, List, Option, Ok, Err, Result}
 use Rattle.hex_io.specs.Told.{Told}
 use Rattle.hex_plan.specs.Turns.{TurnData}
-use Rattle.hex_devices.specs.Devices.{LinkAndArchive, Outcome}
-use Rattle.hex_devices.specs.Handing.{HandsOver, stop_of_handing}
+use Rattle.hex_devices.specs.Devices.{LinkAndArchive}
+use Rattle.hex_devices.specs.Errors.{output_of_handing}
+use Rattle.hex_devices.specs.Handing.{HandsOver}
+use Rattle.hex_devices.specs.declared.errors.OutputError.{OutputError}
+use Rattle.hex_devices.specs.declared.errors.OutputError.TheVariants as output
 use Rattle.hex_devices.specs.declared.faults.HandingFault.{HandingFault}
 use Rattle.hex_devices.specs.declared.faults.HandingFault.TheVariants.{Archive, Write}
-use Rattle.hex_devices.specs.declared.stops.Stop.{Stop}
-use Rattle.hex_devices.specs.declared.stops.Stop.TheVariants.{ReadFault, WriteFault, Memory}
-use Rattle.hex_devices.specs.declared.stops.Stop.TheVariants.{TooLong, ArchiveFault}
 use Rattle.turn_modes.specs.HandingIn.{HandsIn}
 
 -- how a mode ends that handed over its turn so
-abbrev pub outcome_of : Result (Unit {0}) HandingFault → Outcome
+abbrev pub outcome_of : Result (Unit {0}) HandingFault → Result (Unit {0}) OutputError
 outcome_of (Ok done) = Ok done
-outcome_of (Err fault) = Err (stop_of_handing fault)
+outcome_of (Err fault) = Err (output_of_handing fault)
 
 handed : (Says : TurnData → List ℕ → Type 0) (old new : LinkAndArchive) (turn : TurnData)
     (text : List ℕ) (result : Result (Unit {0}) HandingFault) → Says turn text
@@ -35,11 +35,10 @@ handed_as Says x y link link_now a b turns turns_now turn text result p q r s sa
 
 -- what holds of the turn and its text holds less
 pub hands_less : (Says Less : TurnData → List ℕ → Type 0) (old new : LinkAndArchive)
-    (outcome : Outcome) → ((turn : TurnData) (text : List ℕ) → Says turn text → Less turn text)
+    (outcome : Result (Unit {0}) OutputError)
+    → ((turn : TurnData) (text : List ℕ) → Says turn text → Less turn text)
     → HandsIn Says old new outcome → HandsIn Less old new outcome
 hands_less Says Less old new (Ok done) less h = (h.0, h.1, less h.0 h.1 h.2, h.3, h.4)
-hands_less Says Less old new (Err ReadFault) less h = absurd h
-hands_less Says Less old new (Err WriteFault) less h = (h.0, h.1, less h.0 h.1 h.2, h.3, h.4)
-hands_less Says Less old new (Err Memory) less h = h
-hands_less Says Less old new (Err TooLong) less h = absurd h
-hands_less Says Less old new (Err ArchiveFault) less h = h
+hands_less Says Less old new (Err output.Memory) less h = h
+hands_less Says Less old new (Err output.Archive) less h = h
+hands_less Says Less old new (Err output.Write) less h = (h.0, h.1, less h.0 h.1 h.2, h.3, h.4)

@@ -19,7 +19,7 @@
 //! are the longest prefix of a third of the shuffled cells of which none joins its player. The text
 //! is that of the turn. In bench, and in sim with one worker, the options determine it. At a write
 //! fault a prefix of it was given; at an archive fault or out of memory nothing was, and the
-//! archive has the same turns. Counts of faults rise exactly with their stops, and nothing is read
+//! archive has the same turns. Counts of faults rise exactly with their errors, and nothing is read
 //! or fetched.
 //!
 //! **What is only tested, or not said.** That workers of bench run side by side. That memory

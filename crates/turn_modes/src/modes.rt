@@ -2,14 +2,15 @@
 
 ghost use Rattle.std.specs.Prelude.{◌≡◌, IfOk};
 ghost use Rattle.tree_words.specs.Settings.{AreInRange};
-ghost use Rattle.hex_devices.specs.Devices.{CountsFaults, link_and_archive};
+ghost use Rattle.hex_devices.specs.Devices.{CountsAs, link_and_archive};
+ghost use Rattle.hex_devices.specs.Errors.{stop_of_output};
 ghost use Rattle.turn_modes.specs.HandingIn.{HandsIn, IsTurnOf};
 
 use super::options::ModeOptions;
 use super::positions::bench_position;
 use super::searches::{benchmarked_turn, simulated_turn};
 use super::texts::{bench_text, sim_text};
-use hex_devices::{Devices, Stop, hand_over};
+use hex_devices::{Devices, OutputError, hand_over};
 use hex_io::{Link, Shelf};
 use hex_plan::{Archive, Memory, Turn};
 use search_team::Gate;
@@ -35,22 +36,22 @@ struct ToldTurn {
 
 /// Searches the position of the mode, and hands in the turn and then its text.
 ///
-/// `ArchiveFault` and `WriteFault` come only if the archive or the link counted that fault. It
-/// refuses otherwise only if memory runs out, before the turn is handed in. It reads nothing, and
-/// fetches nothing from the shelf.
+/// `Archive` and `Write` come only if the archive or the link counted that fault. It refuses
+/// otherwise only if memory runs out, before the turn is handed in. It reads nothing, and fetches
+/// nothing from the shelf.
 pub fn hand_in<L: Link, F: Shelf, A: Archive, R: Threads + Sync, G: Gate + Sync>(
     alloc: Global,
     mode: TurnMode,
     options: &ModeOptions,
     devices: &mut Devices<'_, '_, '_, '_, L, F, A, R, G>,
-) -> Result<(), Stop>
+) -> Result<(), OutputError>
     requires { AreInRange options.now.knobs }
     ensures hands { HandsIn (IsTurnOf mode options.now)
         (link_and_archive devices.old) (link_and_archive devices.new) result }
     ensures reads { devices.new.read_faults ≡ devices.old.read_faults }
     ensures shelf { devices.new.shelf ≡ devices.old.shelf }
     ensures fetches { devices.new.fetch_faults ≡ devices.old.fetch_faults }
-    ensures counts { CountsFaults devices.old devices.new result }
+    ensures counts { CountsAs stop_of_output devices.old devices.new result }
 {
     let told = told_turn(devices.rt, alloc, mode, options, devices.gate)?;
     hand_over(

@@ -12,9 +12,8 @@ use Rattle.htp_session.specs.Calls.Holding.{Passes}
 use Rattle.htp_session.specs.declared.answering.Said.{Said}
 use Rattle.htp_session.specs.declared.answering.Said.TheVariants.{Whole, Open}
 use Rattle.hex_devices.specs.Devices.{DevicesState, shelf_and_archive}
-use Rattle.hex_devices.specs.declared.stops.Stop.{Stop}
-use Rattle.hex_devices.specs.declared.stops.Stop.TheVariants.{ReadFault, WriteFault, Memory}
-use Rattle.hex_devices.specs.declared.stops.Stop.TheVariants.{TooLong, ArchiveFault}
+use Rattle.hex_devices.specs.declared.errors.OutputError.{OutputError}
+use Rattle.hex_devices.specs.declared.errors.OutputError.TheVariants.{Memory, Archive, Write}
 
 -- this, whatever is left, was said at once, and the engine stands so then; or nothing was said, and
 -- it says what that request says
@@ -42,28 +41,26 @@ SpeaksToRequest before after request =
 -- engine stands so; or a write failed before anything was asked; or what was held was given,
 -- nothing was used up, and memory or a turn was wanted.
 abbrev pub Writes : DevicesState → DevicesState → EngineState → EngineState → (Supply → TalkState)
-    → List ℕ → List ℕ → Result Bool Stop → Type 0
+    → List ℕ → List ℕ → Result Bool OutputError → Type 0
 Writes old new before after says held held_now (Ok quit) =
     (bytes : List ℕ) × Passes old.link new.link held bytes held_now
     × AnswersWith before.options (shelf_and_archive old) (shelf_and_archive new) says bytes after
     quit
-Writes old new before after says held held_now (Err ReadFault) = ⊥
-Writes old new before after says held held_now (Err WriteFault) =
+Writes old new before after says held held_now (Err Write) =
     GaveProperPart old.link new.link held × (shelf_and_archive new ≡ shelf_and_archive old)
 Writes old new before after says held held_now (Err Memory) = Gave old.link new.link held
     × UsesUpNothing before.options (shelf_and_archive old) (shelf_and_archive new)
-Writes old new before after says held held_now (Err TooLong) = ⊥
-Writes old new before after says held held_now (Err ArchiveFault) = Gave old.link new.link held
+Writes old new before after says held held_now (Err Archive) = Gave old.link new.link held
     × Wants before.options (shelf_and_archive old) (shelf_and_archive new) before says
 
 -- the same of a line, as far as it is kept
 abbrev pub WritesAnswer : DevicesState → DevicesState → EngineState → EngineState
-    → Option (List ℕ) → List ℕ → List ℕ → Result Bool Stop → Type 0
+    → Option (List ℕ) → List ℕ → List ℕ → Result Bool OutputError → Type 0
 WritesAnswer old new before after line =
     Writes old new before after (λ left. after_line before left line)
 
 -- the same of a request
 abbrev pub WritesReply : DevicesState → DevicesState → EngineState → EngineState
-    → Request → List ℕ → List ℕ → Result Bool Stop → Type 0
+    → Request → List ℕ → List ℕ → Result Bool OutputError → Type 0
 WritesReply old new before after request =
     Writes old new before after (λ left. after_reading before left (parsed.Request request))

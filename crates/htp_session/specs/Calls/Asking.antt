@@ -1,5 +1,5 @@
 -- What it does to ask the engine over the devices. No clause of a public call cites this.
-use Rattle.std.specs.Prelude.{◌≡◌, ℕ, Bool, List, [], ◌++◌, Option, None, Some, Result, Ok, Err}
+use Rattle.std.specs.Prelude.{◌≡◌, ℕ, Bool, List, [], ◌++◌, Result, Ok, Err}
 use Rattle.htp_line.specs.declared.request.Request.{Request}
 use Rattle.htp_line.specs.declared.request.Parsed.TheVariants as parsed
 use Rattle.hex_engine.specs.EngineState.{EngineState}
@@ -13,18 +13,19 @@ use Rattle.hex_engine.specs.declared.answers.EngineError.TheVariants.{Memory, Ar
 use Rattle.htp_session.specs.Talk.{after_reading}
 use Rattle.htp_session.specs.Usage.{AnswersWith, Wants, UsesUp, UsesUpNothing}
 use Rattle.hex_devices.specs.Devices.{DevicesState, shelf_and_archive}
+use Rattle.hex_devices.specs.Errors.{stop_of_output}
+use Rattle.hex_devices.specs.declared.errors.OutputError.{OutputError}
+use Rattle.hex_devices.specs.declared.errors.OutputError.TheVariants as output
 use Rattle.hex_devices.specs.declared.stops.Stop.{Stop}
-use Rattle.hex_devices.specs.declared.stops.Stop.TheVariants as stop
 
--- why a session stops whose engine gave no answer
+-- why nothing is given for a request to which the engine gave no answer
+abbrev pub output_of_engine : EngineError → OutputError
+output_of_engine Memory = output.Memory
+output_of_engine Archive = output.Archive
+
+-- the stop of a session that ends so
 abbrev pub stop_of_engine : EngineError → Stop
-stop_of_engine Memory = stop.Memory
-stop_of_engine Archive = stop.ArchiveFault
-
--- the same of what asks the engine, if it got no answer
-abbrev pub stop_in_asking : {T : Type 0} → Result T EngineError → Option Stop
-stop_in_asking (Ok value) = None
-stop_in_asking (Err error) = Some (stop_of_engine error)
+stop_of_engine error = stop_of_output (output_of_engine error)
 
 -- the engine answered a request, or wanted memory or a turn, and then it stands as before
 abbrev pub Asks : DevicesState → DevicesState → EngineState → EngineState → Request

@@ -25,12 +25,12 @@ returns-in-Ok-clause-counts g c
 
 pub returns-in-Err-clause-writes : goal.returns-in-Err-clause-writes
 returns-in-Err-clause-writes g c =
-    rw c.stop_for.ensures
+    rw c.output_error.ensures
     (unreplied_after c.args.devices.now c.give_held.new.devices c.reply.new.devices c.args.engine.now c.reply.new.engine c.args.request.now
     c.args.out.now.items c.give_held.new.held.items c.reply.new.out.items c.in-Err.error
     c.in_ok-give_held.ensures.gives c.in_ok-give_held.ensures.shelf_and_archive c.in-Err.ensures.link c.in-Err.ensures.replies)
 
 pub returns-in-Err-clause-counts : goal.returns-in-Err-clause-counts
 returns-in-Err-clause-counts g c =
-    rw c.stop_for.ensures
+    rw c.output_error.ensures
     (counts_then c.args.devices.now c.give_held.new.devices _ _ c.in_ok-give_held.ensures.counts c.in-Err.ensures.counts)

@@ -1,5 +1,5 @@
 -- What stands at each end, and after one piece more.
-use Rattle.std.proofs.Common.{◌≡◌, ◌≤◌, ◌+◌, [], ◌++◌, length, take, refl, arith, ◌∙◌}
+use Rattle.std.proofs.Common.{◌≡◌, ◌≤◌, ◌+◌, Ok, Err, [], ◌++◌, length, take, refl, arith, ◌∙◌}
 use Rattle.std.proofs.lemmas.Result.{err_from_is_err_and}
 use Rattle.hex_engine.specs.EngineState.{opening}
 use Rattle.hex_devices.specs.Devices.{shelf_and_archive}
@@ -35,7 +35,13 @@ returns-in_err-count-clause-counts g c =
 
 pub returns-then-count-eq0-clause-converses : goal.returns-then-count-eq0-clause-converses
 returns-then-count-eq0-clause-converses g c =
-    by_last c.args.options.now c.args.size c.args.limit c.args.devices.now c.pieces.devices c.read.new.self c.finish.new.devices c.pieces.session c.read.new.buffer c.pieces.total c.in_ok-count.count c.finish.result c.pieces.invariant.in_limit c.if-count-eq0.true c.pieces.invariant.goes c.in_ok-count.ensures.shelf_and_archive c.in_ok-count.ensures.reads c.finish.ensures.finishes
+    by_last c.args.options.now c.args.size c.args.limit c.args.devices.now c.pieces.devices c.read.new.self c.finish.new.devices c.pieces.session c.read.new.buffer c.pieces.total c.in_ok-count.count (Ok tt) c.pieces.invariant.in_limit c.if-count-eq0.true c.pieces.invariant.goes c.in_ok-count.ensures.shelf_and_archive c.in_ok-count.ensures.reads c.in_ok-finish.ensures.finishes
+
+pub returns-in_err-finish-clause-converses : goal.returns-in_err-finish-clause-converses
+returns-in_err-finish-clause-converses g c =
+    let r = err_from_is_err_and c.from_residual-in_err-finish.result c.from_residual-in_err-finish.ensures.1 in
+    rw (r.1, r.2)
+    (by_last c.args.options.now c.args.size c.args.limit c.args.devices.now c.pieces.devices c.read.new.self c.finish.new.devices c.pieces.session c.read.new.buffer c.pieces.total c.in_ok-count.count (Err c.in_err-finish.field-0.0) c.pieces.invariant.in_limit c.if-count-eq0.true c.pieces.invariant.goes c.in_ok-count.ensures.shelf_and_archive c.in_ok-count.ensures.reads c.in_err-finish.ensures.finishes)
 
 pub returns-then-total-limit-clause-converses : goal.returns-then-total-limit-clause-converses
 returns-then-total-limit-clause-converses g c =
