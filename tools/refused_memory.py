@@ -3,10 +3,10 @@
 
     tools/refused_memory.py [ROW ...]
 
-A run is one of `hex_cli::run`, or of `match_ref::run_match`, over links in memory, in pieces of
-seven bytes. Each has to end with its own result, or with status 5, its line on standard error, and
-the answers to the first lines: nothing is left out, nothing is given by half, and nothing else
-comes in place of an answer.
+A run is one of `hex_cli::run`, of words that are read in it, or of `match_ref::run_match`, over
+links in memory, in pieces of seven bytes. Each has to end with its own result, or with status 5,
+its line on standard error, and the answers to the first lines: nothing is left out, nothing is
+given by half, and nothing else comes in place of an answer.
 
 `rt try --fail-alloc N` refuses the Nth allocation of a program, which it builds for that number.
 tools/refused_memory/program.txt is a program that makes as many allocations before the run as its
@@ -152,7 +152,7 @@ def make_repository(folder):
     source.mkdir(parents=True)
     shutil.copy(PROGRAM, source / "main.rt")
     shutil.copy(TOP / "HANDLES", folder)
-    uses = "\n%s: hex_io hex_plan hex_devices hex_cli match_ref search_team anyhow\n" % NAME
+    uses = "\n%s: hex_io hex_plan hex_devices hexd_args hex_cli match_ref search_team anyhow\n" % NAME
     (folder / "crates.txt").write_text((TOP / "crates.txt").read_text() + uses)
 
 

@@ -1,15 +1,10 @@
 -- What follows of what was done in any mode, by its kind.
-use Rattle.std.proofs.Common.{Some, None, Option, Err, refl, ◌≡◌, ◌≢◌}
+use Rattle.std.proofs.Common.{refl, ◌≡◌, ◌≢◌}
 use Rattle.std.proofs.Common.{sym, ◌∙◌, subst}
-use Rattle.hex_io.specs.Told.{Both, Same}
+use Rattle.hex_io.specs.Told.{Both}
 use Rattle.turn_modes.specs.HandingIn.{IsTurnOf}
-use Rattle.hex_devices.specs.Devices.{DevicesState, link_and_archive, shelf_and_archive}
-use Rattle.htp_session.proofs.Conversations.{conversed_nothing}
+use Rattle.hex_devices.specs.Devices.{DevicesState, link_and_archive}
 use Rattle.hex_devices.specs.declared.stops.Stop.TheVariants.{ReadFault, WriteFault, ArchiveFault}
-use Rattle.hex_devices.specs.declared.stops.Stop.TheVariants.{Memory}
-use Rattle.hex_devices.specs.declared.errors.AnswerError.TheVariants as answer
-use Rattle.hex_devices.specs.declared.errors.InputError.TheVariants as input
-use Rattle.hex_devices.specs.declared.errors.OutputError.TheVariants as output
 use Rattle.hexd_args.specs.declared.settings.Options.{Options}
 use Rattle.hex_cli.specs.Modes.{engine_options, mode_options}
 use Rattle.hex_cli.specs.Runs.{IsUnarchived, IsUnfetched}
@@ -22,7 +17,7 @@ use Rattle.hex_devices.specs.declared.ends.End.{End}
 use Rattle.hex_devices.specs.declared.ends.End.TheVariants.{Usage, Stopped}
 use Rattle.hex_cli.specs.declared.limits.TheConstants.{INPUT_LIMIT}
 use Rattle.hex_cli.proofs.InputEnds.{IsComplete, IsLong}
-use Rattle.hex_cli.proofs.InputEnds.{input_complete, input_no_usage, input_nothing, input_too_long}
+use Rattle.hex_cli.proofs.InputEnds.{input_complete, input_no_usage, input_too_long}
 use Rattle.hex_cli.proofs.RunLaws.{outcome_no_usage, session_complete, session_too_long}
 use Rattle.hex_cli.proofs.HandedTurns.{handed_complete, handed_no_usage, handed_too_long}
 
@@ -76,34 +71,7 @@ does_complete (OneTurn mode) options end old new d f =
     (link_and_archive old) (link_and_archive new) d.0 d.2
     (λ e. f.write (d.1 ∙ e)) (λ e. f.archive (d.1 ∙ e)))
 
--- ---- before anything was done nothing changed
-
-same_self : {X : Type 0} (x : Option X) → Same x x
-same_self None = tt
-same_self (Some x) = refl
-
-pub does_nothing : (kind : ModeKind) (options : Options) (at : DevicesState)
-    → ServesBy kind options (Stopped Memory) at at
-does_nothing Session options at =
-    let nothing = conversed_nothing (engine_options options) options.size INPUT_LIMIT
-    (shelf_and_archive at) at.link in
-    (nothing.0, (Err Memory, refl, nothing.1), nothing.2)
-does_nothing (WholeInput mode) options at =
-    (Err (answer.Input input.Memory), refl, input_nothing (IsTextOf mode) INPUT_LIMIT at.link)
-does_nothing (OneTurn mode) options at = (Err output.Memory, refl, (refl, same_self at.turns))
-
 -- ---- what stands idle
-
-unfetched_self : (at : DevicesState) → IsUnfetched at at
-unfetched_self at = record { shelf = refl; fetches = refl }
-
-unarchived_self : (at : DevicesState) → IsUnarchived at at
-unarchived_self at = record { turns = refl; archives = refl }
-
-pub idle_self : (kind : ModeKind) (at : DevicesState) → IsIdleBy kind at at
-idle_self Session at = tt
-idle_self (WholeInput mode) at = (unfetched_self at, unarchived_self at)
-idle_self (OneTurn mode) at = unfetched_self at
 
 pub idle_unfetched : (kind : ModeKind) (old new : DevicesState) → IsIdleBy kind old new
     → kind ≢ Session → IsUnfetched old new

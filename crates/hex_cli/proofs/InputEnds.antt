@@ -1,5 +1,5 @@
 -- What follows of how a mode ends that takes its whole input.
-use Rattle.std.proofs.Common.{Ok, Err, Result, Bool, true, false, List, [], ◌≡◌, ◌≢◌, ℕ, ◌+◌, ◌≤◌}
+use Rattle.std.proofs.Common.{Ok, Err, Result, Bool, true, false, List, ◌≡◌, ◌≢◌, ℕ, ◌+◌, ◌≤◌}
 use Rattle.std.proofs.Common.{◌⊎◌, ◌++◌, length, drop, Option, refl, ap, sym, ◌∙◌, inl, inr, arith}
 use Rattle.std.proofs.Common.{subst}
 use Rattle.std.specs.Prelude.{◌↔◌}
@@ -12,7 +12,6 @@ use Rattle.hex_devices.specs.declared.errors.AnswerError.{AnswerError}
 use Rattle.hex_devices.specs.declared.errors.AnswerError.TheVariants as answer
 use Rattle.hex_devices.specs.declared.errors.InputError.TheVariants as input
 use Rattle.hex_devices.specs.declared.stops.Stop.TheVariants.{ReadFault, WriteFault}
-use Rattle.hex_devices.proofs.InputLaws.{took_at_most, took_nothing}
 use Rattle.hex_devices.specs.Statuses.{end_of_answer, status_of}
 use Rattle.hex_devices.specs.declared.ends.End.{End}
 use Rattle.hex_devices.specs.declared.ends.End.TheVariants.{Usage, Stopped}
@@ -113,8 +112,3 @@ pub input_no_usage : (result : Result Bool AnswerError) → end_of_answer result
 input_no_usage (Ok true) e = absurd (cc)
 input_no_usage (Ok false) e = absurd (cc)
 input_no_usage (Err error) e = absurd (cc)
-
--- before the first read nothing was taken
-pub input_nothing : (Answers : TextOf) (limit : ℕ) (x : Option Told)
-    → AnswersInput Answers x x limit (Err (answer.Input input.Memory))
-input_nothing Answers limit x = took_at_most x x [] limit (omega arith) (took_nothing x [] refl)

@@ -13,8 +13,8 @@
 -- 5. The status: `play` in src/playing.rt, `serve` in src/serving.rt and `run` in src/top.rt, by
 --    specs/Served.antt, which only private clauses cite (what is done in each mode, told of the
 --    devices); proofs/RunLaws (how a session ends), Doings (what follows in any mode), Leavings.
---    That each status is that of one end is hex_devices', the words are those of
---    `hexd_args::read_words`.
+--    That each status is that of one end is hex_devices', what the words ask for is
+--    `hexd_args::CommandLine`'s.
 -- 6. The clause `good_turns` is what the private clauses say, and `conversed` a part of it. The
 --    clauses `headline` and `threats`: hex_engine, proofs/Legal; htp_session, proofs/TakenTurns;
 --    proofs/GeneratedMoves, with hex_plan, proofs/CertifiedMoves, for certified moves and moves

@@ -1,30 +1,14 @@
 -- What a run does, told of its words, its status, and its devices before and after.
-use Rattle.std.specs.Prelude.{◌≡◌, ◌≢◌, ◌⊎◌, ℕ, List}
+use Rattle.std.specs.Prelude.{◌≡◌, ◌≢◌, ℕ, List}
 use Rattle.hexd_args.specs.Reading.{WellFormed}
 use Rattle.hexd_args.specs.declared.settings.Options.{Options}
 use Rattle.hexd_args.specs.declared.settings.Mode.{Mode}
-use Rattle.hex_devices.specs.declared.stops.Stop.TheVariants.{Memory}
 use Rattle.hex_devices.specs.Devices.{DevicesState}
 use Rattle.hex_devices.specs.Statuses.{status_of}
 use Rattle.hex_devices.specs.declared.ends.End.{End}
-use Rattle.hex_devices.specs.declared.ends.End.TheVariants.{Usage, Stopped}
 use Rattle.hex_cli.specs.Modes.{kind_of}
 use Rattle.hex_cli.specs.declared.kinds.ModeKind.TheVariants.{Session, WholeInput}
 use Rattle.hex_cli.specs.declared.whole_inputs.InputMode.{InputMode}
-
--- ---- the words
-
--- no options make these words well formed
-abbrev pub AreRefused : List (List ℕ) → Type 0
-AreRefused words = (options : Options) → ¬ WellFormed words options
-
--- the status is neither that of a usage nor that of a run that was out of memory
-abbrev pub IsServed : ℕ → Type 0
-IsServed status = (status ≢ status_of Usage) × (status ≢ status_of (Stopped Memory))
-
--- the status is that of a usage or that of a run that was out of memory
-abbrev pub IsRefusal : ℕ → Type 0
-IsRefusal status = (status ≡ status_of Usage) ⊎ (status ≡ status_of (Stopped Memory))
 
 -- ---- the modes
 

@@ -1,16 +1,17 @@
-//! The top call of `hexd`: from the words of a command line and a link to a status.
+//! The top call of `hexd`: from a command line that was read and a link to a status.
 //!
-//! **What it is.** A *run* reads its words and does what they ask for; its *status* tells how it
-//! ended (`End` of hex_devices). In mode `htp` it plays a session of htp_session: a conversation
+//! **What it is.** A *run* does what the words of its command line ask for; its *status* tells how
+//! it ended (`End` of hex_devices). In mode `htp` it plays a session of htp_session: a conversation
 //! from an empty board, of which the *talk* over the lines taken is what is given. Modes `check`,
 //! `migrate`, `audit` and `solve` take their whole input and give one text for it. Modes `sim` and
 //! `bench` of turn_modes read nothing, and hand in one turn with its text.
 //!
-//! **A caller** makes the devices, of a link, a shelf, an archive, a runtime and a gate, and the
-//! errors, and ends with the status:
+//! **A caller** reads the words, makes the devices, of a link, a shelf, an archive, a runtime and a
+//! gate, and the errors, and ends with the status:
 //!
 //! ```text
-//! let status = run(alloc, &words, &mut devices, &mut errors);
+//! let line = CommandLine::read(alloc, words)?;
+//! let status = run(alloc, &line, &mut devices, &mut errors);
 //! ```
 //!
 //! **What is proved**, of links, shelves and archives that tell what they hold, in the words of
@@ -35,17 +36,16 @@
 //! - In modes `sim` and `bench` the archive took one turn, and the text is that of this turn, in
 //!   the words of turn_modes.
 //! - What fails first ends the run: a count of faults rose with its own status (3, 4 or 7) and is
-//!   as before with every other. Status 2 comes only if the words are not well formed, 6 exactly if
-//!   one byte more than [`INPUT_LIMIT`] was taken, 7 before a `genmove` that is not refused. The
+//!   as before with every other. Status 2 comes exactly if the words are not well formed, 6 exactly
+//!   if one byte more than [`INPUT_LIMIT`] was taken, 7 before a `genmove` that is not refused. The
 //!   errors get the one line of the status.
 //! - The shelf is not used in any mode but `htp`, and the archive not if the input is taken whole.
-//! - [`trace_name`] is the name that `--trace` says.
 //!
-//! **What is only tested, or not said.** That memory suffices: a run may always end with status 5,
-//! which no clause ties to a refused growth; and a quiet answer that is dropped then can't be told
-//! from memory that ran out earlier. That a run which met a fault reads and writes no more, if
-//! it answers that fault's status all the same. That workers run side by side, which two gates
-//! show. How fast it is.
+//! **What is only tested, or not said.** That memory suffices: a run of well-formed words may
+//! always end with status 5, which no clause ties to a refused growth; and a quiet answer that is
+//! dropped then can't be told from memory that ran out earlier. That a run which met a fault reads
+//! and writes no more, if it answers that fault's status all the same. That workers run side by
+//! side, which two gates show. How fast it is.
 //!
 //! **Limits.** An input of [`INPUT_LIMIT`] bytes. In mode `htp` answers are given before the next
 //! read, and before many are held, so no memory grows with the input but the game's own; the modes
@@ -83,10 +83,7 @@ mod single_turns;
 mod sizes;
 mod solutions;
 mod top;
-mod trace_names;
 mod whole_inputs;
 
-pub use hexd_args::Memory;
 pub use limits::INPUT_LIMIT;
 pub use top::run;
-pub use trace_names::trace_name;

@@ -1,51 +1,44 @@
 //! What is done for the words of a run, in the mode that they say.
 
-ghost use Rattle.std.specs.Prelude.{◌≡◌, ◌≢◌, ◌⊎◌, ◌^◌, ◌<◌};
-ghost use Rattle.hexd_args.specs.Reading.{WellFormed};
+ghost use Rattle.std.specs.Prelude.{◌≡◌, ◌≢◌, ◌↔◌};
+ghost use Rattle.hexd_args.specs.Reading.{AreRefused, WellFormed};
 ghost use Rattle.hexd_args.specs.Values as value;
 ghost use Rattle.hexd_args.specs.declared.settings.Options.{Options};
-ghost use Rattle.hex_devices.specs.declared.stops.Stop.TheVariants.{Memory};
 ghost use Rattle.hex_devices.specs.Devices.{CountsStop};
 ghost use Rattle.hex_cli.specs.Modes.{kind_of};
-ghost use Rattle.hex_cli.specs.Runs.{AreRefused};
 ghost use Rattle.hex_cli.specs.Served.{IsIdleBy, LeavesIdle, Serves, ServesBy};
 ghost use Rattle.hex_devices.specs.Statuses.{stop_in};
-ghost use Rattle.hex_devices.specs.declared.ends.End.TheVariants.{Stopped};
 
 use crate::kinds::ModeKind;
 use crate::playing::play;
 use crate::single_turns::serve_turn;
 use crate::whole_inputs::serve_input;
-use hex_devices::{Devices, End, Stop};
-use hex_io::{Link, Shelf, Word};
+use hex_devices::{Devices, End};
+use hex_io::{Link, Shelf};
 use hex_plan::Archive;
-use hexd_args::{Options, read_words};
+use hexd_args::{CommandLine, Options};
 use search_team::Gate;
 use std::alloc::Global;
 use std::thread::Threads;
 
-/// Reads the words, and does over the link what they ask for, in the mode that they say.
+/// Does over the devices what the words ask for, in the mode that they say.
 pub fn serve<L: Link, F: Shelf, A: Archive, R: Threads + Sync, G: Gate + Sync>(
     alloc: Global,
-    words: &[Word],
+    line: &CommandLine,
     devices: &mut Devices<'_, '_, '_, '_, L, F, A, R, G>,
 ) -> End
-    ensures usage { result ≡ End.Usage → AreRefused words.now }
-    ensures well_formed { result ≢ End.Usage → result ≢ Stopped Memory
-        → (options : Options) × WellFormed words.now options }
-    ensures refused { AreRefused words.now
-        → (result ≡ End.Usage) ⊎ (result ≡ Stopped Memory) }
-    ensures untouched { AreRefused words.now → devices.new ≡ devices.old }
-    ensures does { Serves words.now result devices.old devices.new }
-    ensures idle { LeavesIdle words.now devices.old devices.new }
+    ensures usage { (result ≡ End.Usage) ↔ AreRefused line.now }
+    ensures well_formed { result ≢ End.Usage
+        → (options : Options) × WellFormed line.now options }
+    ensures untouched { AreRefused line.now → devices.new ≡ devices.old }
+    ensures does { Serves line.now result devices.old devices.new }
+    ensures idle { LeavesIdle line.now devices.old devices.new }
     ensures counts { CountsStop devices.old devices.new (stop_in result) }
 {
-    let options = match read_words(alloc, words) {
-        Err(_) => return End::Stopped(Stop::Memory),
-        Ok(None) => return End::Usage,
-        Ok(Some(options)) => options,
-    };
-    in_mode(alloc, &options, devices)
+    match line.options() {
+        Some(options) => in_mode(alloc, options, devices),
+        None => End::Usage,
+    }
 }
 
 /// Serves over the devices what the options ask for, in the mode that they say.

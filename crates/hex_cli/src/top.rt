@@ -1,8 +1,8 @@
-//! The top call: from the words of the command line to a status.
+//! The top call: from the command line to a status.
 
-ghost use Rattle.std.specs.Prelude.{◌≡◌};
+ghost use Rattle.std.specs.Prelude.{◌≡◌, ◌≢◌, ◌↔◌};
 ghost use Rattle.hex_io.specs.Causes.{CountsFault};
-ghost use Rattle.hexd_args.specs.Reading.{WellFormed};
+ghost use Rattle.hexd_args.specs.Reading.{AreRefused, WellFormed};
 ghost use Rattle.hexd_args.specs.declared.settings.Options.{Options};
 ghost use Rattle.hexd_args.specs.declared.settings.Mode.TheVariants.{Htp, Check, Migrate};
 ghost use Rattle.hexd_args.specs.declared.settings.Mode.TheVariants.{Audit, Sim, Bench, Solve};
@@ -17,7 +17,6 @@ ghost use Rattle.hex_cli.specs.Determined.{Determines};
 ghost use Rattle.hex_cli.specs.Headline.{HasHeadline};
 ghost use Rattle.hex_cli.specs.Modes.{AnswersBy, HandsInBy};
 ghost use Rattle.hex_cli.specs.Playing.{HasGoodTurns, HasKnownThreats, HasPlayed};
-ghost use Rattle.hex_cli.specs.Runs.{AreRefused, IsServed, IsRefusal};
 ghost use Rattle.hex_cli.specs.Runs.{InMode, seen, HasIdleShelf, HasIdleArchive};
 ghost use Rattle.hex_cli.specs.SolveTexts.{IsSolveText};
 ghost use Rattle.hex_devices.specs.Statuses.{status_of, HasStopped};
@@ -25,21 +24,22 @@ ghost use Rattle.hex_devices.specs.declared.ends.End.{End};
 
 use crate::serving::serve;
 use hex_devices::Devices;
-use hex_io::{Link, Shelf, Word, report};
+use hex_io::{Link, Shelf, report};
 use hex_plan::Archive;
+use hexd_args::CommandLine;
 use search_team::Gate;
 use std::alloc::Global;
 use std::thread::Threads;
 
 /// Runs the program that the words ask for over the devices, and answers its status.
 ///
-/// The words are those of the command line after the program's name. In mode `htp` each raw line of
-/// the input is answered, by GTP version 2, from an empty board of the size that the words say. The
-/// shelf has the files of `loadsgf`, and the archive takes the turn of each `genmove`. Modes
-/// `check`, `migrate`, `audit` and `solve` take the whole input and give one text for it. That is
-/// the verdict on a certificate, the certificate in its latest version, the verdict on traces of
-/// closed trees, or who wins the position of a record. Modes `sim` and `bench` read nothing: they
-/// search one position, hand the turn to the archive, and give one text that says it.
+/// The words are those of the command line after the program's name, and were read before. In mode
+/// `htp` each raw line of the input is answered, by GTP version 2, from an empty board of the size
+/// that the words say. The shelf has the files of `loadsgf`, and the archive takes the turn of each
+/// `genmove`. Modes `check`, `migrate`, `audit` and `solve` take the whole input and give one text
+/// for it. That is the verdict on a certificate, the certificate in its latest version, the verdict
+/// on traces of closed trees, or who wins the position of a record. Modes `sim` and `bench` read
+/// nothing: they search one position, hand the turn to the archive, and give one text that says it.
 ///
 /// Searches run in threads of the devices' runtime, and their workers pass their gate; no clause
 /// speaks of these.
@@ -69,10 +69,10 @@ use std::thread::Threads;
 /// What fails first ends the run: the link's count of read faults rose with 3, its count of write
 /// faults with 4 and the archive's count of faults with 7, and each is as before with every other
 /// status. A fault of the errors changes nothing of the status. Status 5 may come in place of any
-/// other.
+/// other but 2.
 pub fn run<R: Threads + Sync, L: Link, E: Link, F: Shelf, A: Archive, G: Gate + Sync>(
     alloc: Global,
-    words: &[Word],
+    line: &CommandLine,
     devices: &mut Devices<'_, '_, '_, '_, L, F, A, R, G>,
     errors: &mut E,
 ) -> u8
@@ -81,43 +81,43 @@ pub fn run<R: Threads + Sync, L: Link, E: Link, F: Shelf, A: Archive, G: Gate + 
     // The link, the shelf and the archive are those that were handed in.
     ensures names { devices.new.names ≡ devices.old.names }
 
-    // The words. Out of memory may come in place of a refusal.
-    ensures usage { result ≡ status_of End.Usage → AreRefused words.now }
-    ensures well_formed { IsServed result → (options : Options) × WellFormed words.now options }
-    ensures refused { AreRefused words.now → IsRefusal result }
-    ensures untouched { AreRefused words.now → devices.new ≡ devices.old }
+    // The words, as which contracts see the line.
+    ensures usage { (result ≡ status_of End.Usage) ↔ AreRefused line.now }
+    ensures well_formed { result ≢ status_of End.Usage
+        → (options : Options) × WellFormed line.now options }
+    ensures untouched { AreRefused line.now → devices.new ≡ devices.old }
 
     // Mode htp: what was taken and given, and when, if the link tells it, and what was used up
     // from the shelf and for the archive. Then, if the run is done, each generated move. At every
     // status, that each turn used up is good, and what it says of threats is true. And, if the run
     // is done, that one worker who looks for no connections gives what the words, the input and the
     // shelf determine.
-    ensures conversed { InMode Htp HasPlayed (seen words.now result devices.old devices.new) }
-    ensures headline { InMode Htp HasHeadline (seen words.now result devices.old devices.new) }
-    ensures good_turns { InMode Htp HasGoodTurns (seen words.now result devices.old devices.new) }
-    ensures threats { InMode Htp HasKnownThreats (seen words.now result devices.old devices.new) }
-    ensures determined { InMode Htp Determines (seen words.now result devices.old devices.new) }
+    ensures conversed { InMode Htp HasPlayed (seen line.now result devices.old devices.new) }
+    ensures headline { InMode Htp HasHeadline (seen line.now result devices.old devices.new) }
+    ensures good_turns { InMode Htp HasGoodTurns (seen line.now result devices.old devices.new) }
+    ensures threats { InMode Htp HasKnownThreats (seen line.now result devices.old devices.new) }
+    ensures determined { InMode Htp Determines (seen line.now result devices.old devices.new) }
 
     // Modes check, migrate, audit and solve: the whole input was taken, and its text given; the
     // status says whether it was accepted.
     ensures checked { InMode Check (λ options. AnswersBy IsCheckText)
-        (seen words.now result devices.old devices.new) }
+        (seen line.now result devices.old devices.new) }
     ensures migrated { InMode Migrate (λ options. AnswersBy IsMigrateText)
-        (seen words.now result devices.old devices.new) }
+        (seen line.now result devices.old devices.new) }
     ensures audited { InMode Audit (λ options. AnswersBy IsAuditText)
-        (seen words.now result devices.old devices.new) }
+        (seen line.now result devices.old devices.new) }
     ensures solved { InMode Solve (λ o. AnswersBy (IsSolveText o.hsearch o.budget))
-        (seen words.now result devices.old devices.new) }
+        (seen line.now result devices.old devices.new) }
 
     // Modes sim and bench: one turn was handed to the archive, and then its text given.
     ensures simulated { InMode Sim (HandsInBy IsSimulation)
-        (seen words.now result devices.old devices.new) }
+        (seen line.now result devices.old devices.new) }
     ensures benchmarked { InMode Bench (HandsInBy IsBenchmark)
-        (seen words.now result devices.old devices.new) }
+        (seen line.now result devices.old devices.new) }
 
     // What is idle: the shelf in each mode but htp, the archive in those that take the whole input.
-    ensures idle_shelf { HasIdleShelf words.now devices.old devices.new }
-    ensures idle_archive { HasIdleArchive words.now devices.old devices.new }
+    ensures idle_shelf { HasIdleShelf line.now devices.old devices.new }
+    ensures idle_archive { HasIdleArchive line.now devices.old devices.new }
 
     // The causes. Each count of faults rose with its own status, and is as before with every other.
     ensures read_fault { CountsFault devices.old.read_faults devices.new.read_faults
@@ -126,13 +126,13 @@ pub fn run<R: Threads + Sync, L: Link, E: Link, F: Shelf, A: Archive, G: Gate + 
         (HasStopped result WriteFault) }
     ensures archive_fault { CountsFault devices.old.archive_faults devices.new.archive_faults
         (HasStopped result ArchiveFault) }
-    ensures too_long { IsTooLong (seen words.now result devices.old devices.new) }
-    ensures complete { Completes (seen words.now result devices.old devices.new) }
+    ensures too_long { IsTooLong (seen line.now result devices.old devices.new) }
+    ensures complete { Completes (seen line.now result devices.old devices.new) }
 
     // The line for the errors.
     ensures errors { Reports E.Link result errors.old errors.new }
 {
-    let end = serve(alloc, words, devices);
+    let end = serve(alloc, line, devices);
     report(errors, end.line());
     end.status()
 }

@@ -7,9 +7,9 @@
 //!
 //! **A caller** is the shell: `printf 'boardsize 3\nshowboard\n' | hexd htp`.
 //!
-//! **What is proved.** That it is safe and ends whenever its streams do. What it answers is
-//! proved of [`hex_cli::run`], the name of the file of [`hex_cli::trace_name`], and what is written
-//! to it of [`trace_audit::TraceArchive`].
+//! **What is proved.** That it is safe and ends whenever its streams do. What the words ask for,
+//! and the name of the file, is proved of [`hexd_args::CommandLine`], what is answered of
+//! [`hex_cli::run`], and what is written to the file of [`trace_audit::TraceArchive`].
 //!
 //! **What is only tested, or not said.** What the terminal or another program gave or got, and what
 //! a file holds.
@@ -17,10 +17,11 @@
 //! **Limits.** An argument that is no text is a wrong word.
 #![tactic(auto)]
 
-use hex_cli::{run, trace_name};
+use hex_cli::run;
 use hex_devices::{Devices, End, Stop};
 use hex_io::{DirShelf, ErrLink, FileLink, StdLink, Word, report};
 use hex_plan::{Archive, NoArchive};
+use hexd_args::CommandLine;
 use search_team::OpenGate;
 use std::process::ExitCode;
 use std::thread::Threads;
@@ -46,10 +47,10 @@ fn status_of<R: Threads + Sync>(
     threads: &R,
     errors: &mut ErrLink,
 ) -> Result<u8, End> {
-    let words = words_of(rt)?;
-    match archive_of(rt, &words)? {
-        Some(mut archive) => Ok(run_with(rt, threads, &words, errors, &mut archive)),
-        None => Ok(run_with(rt, threads, &words, errors, &mut NoArchive)),
+    let line = line_of(rt)?;
+    match archive_of(rt, &line)? {
+        Some(mut archive) => Ok(run_with(rt, threads, &line, errors, &mut archive)),
+        None => Ok(run_with(rt, threads, &line, errors, &mut NoArchive)),
     }
 }
 
@@ -57,7 +58,7 @@ fn status_of<R: Threads + Sync>(
 fn run_with<R: Threads + Sync, A: Archive>(
     rt: &HostRuntime,
     threads: &R,
-    words: &[Word],
+    line: &CommandLine,
     errors: &mut ErrLink,
     archive: &mut A,
 ) -> u8 {
@@ -70,15 +71,15 @@ fn run_with<R: Threads + Sync, A: Archive>(
         rt: threads,
         gate: &OpenGate,
     };
-    run(rt.alloc(), words, &mut devices, errors)
+    run(rt.alloc(), line, &mut devices, errors)
 }
 
-/// The archive over the file that the words name for traces, or none if they name none.
+/// The archive over the file that the line names for traces, or none if it names none.
 fn archive_of<'a>(
     rt: &'a HostRuntime,
-    words: &[Word],
+    line: &CommandLine,
 ) -> Result<Option<TraceArchive<FileLink<'a>>>, End> {
-    let Ok(asked) = trace_name(rt.alloc(), words) else {
+    let Ok(asked) = line.trace(rt.alloc()) else {
         return Err(End::Stopped(Stop::Memory));
     };
     let Some(name) = asked else {
@@ -90,7 +91,14 @@ fn archive_of<'a>(
     }
 }
 
-/// The words after the program's name, or how a run ends that can't have them.
+/// The line of the words after the program's name, or how a run ends that can't have it.
+fn line_of(rt: &HostRuntime) -> Result<CommandLine, End> {
+    match CommandLine::read(rt.alloc(), words_of(rt)?) {
+        Ok(line) => Ok(line),
+        Err(_) => Err(End::Stopped(Stop::Memory)),
+    }
+}
+
 fn words_of(rt: &HostRuntime) -> Result<Vec<Word>, End> {
     match Word::all(rt) {
         Ok(Some(words)) => Ok(words),

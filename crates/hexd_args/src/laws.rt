@@ -1,7 +1,8 @@
 //! A law of the table of options: each line of it, as the manual has it.
 //!
 //! The definitions of a command line name the constants of the table, so a wrong line of it would
-//! make a wrong definition. Here the manual's numbers stand by themselves.
+//! make a wrong definition. So here the manual's numbers stand bare on purpose, and no limit by its
+//! name: of a name the law would hold whatever its number.
 
 ghost use Rattle.std.specs.Prelude.{◌≡◌, codes};
 

@@ -5,15 +5,17 @@
 //! `--name=value`. A word `--` ends the options, and every word after it is positional. [`Options`]
 //! has the mode and the value of each option, given or default.
 //!
-//! **A caller** hands in the words and gets the options, or none if the words are wrong:
+//! **A caller** hands in the words, and asks the line that was read of them for the options, of
+//! which there are none if the words are wrong:
 //!
 //! ```text
-//! let Some(options) = read_words(alloc, &words)? else {
+//! let line = CommandLine::read(alloc, words)?;
+//! let Some(options) = line.options() else {
 //!     return usage();
 //! };
 //! ```
 //!
-//! **What is proved.** [`read_words`] answers options exactly if the words are well formed with
+//! **What is proved.** A [`CommandLine`] has options exactly if its words are well formed with
 //! these values, `WellFormed` of `specs/Reading.antt`, and none exactly if no options make them so.
 //! The grammar on which that stands is the crate option_words', for hexd's table of options,
 //! `hexd_form` of `specs/Table.antt`. The names, defaults and ranges of that table are the
@@ -27,6 +29,10 @@
 //!
 //! **Why so.**
 //!
+//! - The words are read once, and then go with what they ask for: the program needs it before
+//!   `hex_cli::run`, and `run` promises something of the words. Contracts see a [`CommandLine`] as
+//!   its words alone. That its options are those of its words is what the type keeps (`AreReadAs`),
+//!   so no clause above speaks of a reading. The words themselves are not looked at again.
 //! - All options of the table are read and tested in every mode, so that scripts go on working when
 //!   an option gets its effect.
 //! - The name, default, least and greatest number of an option are a constant each, which code and
@@ -37,13 +43,14 @@
 #![tactic(auto)]
 
 mod command;
+mod command_lines;
 mod laws;
 mod modes;
 mod reading;
 mod settings;
 mod table;
 
+pub use command_lines::CommandLine;
 pub use laws::options_are_those_of_the_manual;
 pub use option_words::Memory;
-pub use reading::read_words;
 pub use settings::{Mode, Options};

@@ -54,7 +54,8 @@ fn is_empty(text: Option<&str>) -> bool
     }
 }
 
-fn copied(alloc: Global, text: Option<&str>) -> Result<Option<Word>, Memory>
+/// A copy of the text, as a word.
+pub fn copied(alloc: Global, text: Option<&str>) -> Result<Option<Word>, Memory>
     ensures { IfOk result (λ w. w ≡ option_map (λ t. t.now) text.entry) }
 {
     match text {

@@ -10,4 +10,3 @@ mod searches;
 mod sessions;
 mod solutions;
 mod tables;
-mod trace_names;

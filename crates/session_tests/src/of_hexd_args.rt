@@ -2,7 +2,7 @@
 //! stands between two words.
 
 use hex_io::Word;
-use hexd_args::{Memory, Mode, Options, read_words};
+use hexd_args::{CommandLine, Memory, Mode, Options};
 use std::alloc::{AllocError, Global};
 use std::test::Fail;
 
@@ -40,6 +40,9 @@ htp --size=5 --|0|5
 
 // Lines that ask for a trace, and its name.
 static TRACED: &str = "--trace t htp|t
+htp --trace t|t
+bench --trace t|t
+--trace=a=b htp --size 5|a=b
 htp --trace=-|-
 --trace=--size=5 htp|--size=5
 --trace =é htp|=é
@@ -92,6 +95,7 @@ htp --seed -1
 --hsearch= htp
 --hsearch - htp
 --trace= htp
+htp --trace=
 --trace  htp
 --trace - htp
 --trace -t htp
@@ -99,6 +103,9 @@ htp --seed -1
 --size 5 --size 5 htp
 --size=5 htp --size=6
 --trace=a --trace b htp
+htp --trace t --trace t
+htp --trace t --size 12
+--trace t
 htp --size
 htp --trace
 --size -- htp
@@ -144,9 +151,8 @@ fn words_of(alloc: Global, line: &str) -> Result<Vec<Word>, AllocError> {
     Ok(words)
 }
 
-fn read(alloc: Global, line: &str) -> Result<Option<Options>, Memory> {
-    let words = words_of(alloc, line)?;
-    read_words(alloc, &words)
+fn read(alloc: Global, line: &str) -> Result<CommandLine, Memory> {
+    CommandLine::read(alloc, words_of(alloc, line)?)
 }
 
 fn numbers(options: &Options) -> [u64; 10] {
@@ -178,14 +184,15 @@ fn takes_lines(rt: HostRuntime) -> Result<(), Fail> {
     for row in TAKEN.lines() {
         let (line, rest) = row.split_once('|').ok_or("a row has bars")?;
         let (place, number) = rest.split_once('|').ok_or("a row has two bars")?;
-        let options = read(rt.alloc(), line)?.ok_or("refused")?;
+        let was_read = read(rt.alloc(), line)?;
+        let options = was_read.options().ok_or("refused")?;
         assert_eq!(rt; options.mode, Mode::Htp);
         assert_eq!(rt;
-            numbers(&options),
+            numbers(options),
             expected(place.parse()?, number.parse()?),
             "{line}"
         );
-        assert!(rt; options.trace.is_none(), "{line}");
+        assert!(rt; was_read.trace(rt.alloc())?.is_none(), "{line}");
     }
     Ok(())
 }
@@ -197,12 +204,15 @@ fn takes_modes(rt: HostRuntime) -> Result<(), Fail> {
         ("check", Mode::Check),
         ("-- audit", Mode::Audit),
         ("sim --steps 3", Mode::Sim),
+        ("bench", Mode::Bench),
         ("--workers=2 -- bench", Mode::Bench),
         ("solve --budget 5", Mode::Solve),
     ];
     for (line, mode) in table {
-        let options = read(rt.alloc(), line)?.ok_or("refused")?;
+        let was_read = read(rt.alloc(), line)?;
+        let options = was_read.options().ok_or("refused")?;
         assert_eq!(rt; options.mode, mode, "{line}");
+        assert!(rt; was_read.trace(rt.alloc())?.is_none(), "{line}");
     }
     Ok(())
 }
@@ -211,8 +221,8 @@ fn takes_modes(rt: HostRuntime) -> Result<(), Fail> {
 fn takes_traces(rt: HostRuntime) -> Result<(), Fail> {
     for row in TRACED.lines() {
         let (line, name) = row.split_once('|').ok_or("a row has a bar")?;
-        let options = read(rt.alloc(), line)?.ok_or("refused")?;
-        let trace = options.trace.ok_or("no trace")?;
+        let was_read = read(rt.alloc(), line)?;
+        let trace = was_read.trace(rt.alloc())?.ok_or("no trace")?;
         assert_eq!(rt; trace.as_str(), name, "{line}");
     }
     Ok(())
@@ -220,9 +230,16 @@ fn takes_traces(rt: HostRuntime) -> Result<(), Fail> {
 
 #[test]
 fn refuses_lines(rt: HostRuntime) -> Result<(), Fail> {
+    let alloc = rt.alloc();
     for line in REFUSED.lines() {
-        assert!(rt; read(rt.alloc(), line)?.is_none(), "{line}");
+        let was_read = read(alloc, line)?;
+        assert!(rt; was_read.options().is_none(), "{line}");
+        assert!(rt; was_read.trace(alloc)?.is_none(), "{line}");
     }
-    assert!(rt; read_words(rt.alloc(), &[])?.is_none());
+    assert!(rt;
+        CommandLine::read(alloc, Vec::new(alloc))?
+            .options()
+            .is_none()
+    );
     Ok(())
 }

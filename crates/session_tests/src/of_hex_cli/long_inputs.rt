@@ -2,7 +2,7 @@
 
 ghost use Rattle.std.specs.Prelude.{None};
 
-use super::runs::{line_of, link_over, shelf_with, words_of};
+use super::runs::{line_of, link_over, read_line, shelf_with};
 use hex_cli::run;
 use hex_devices::Devices;
 use hex_io::{Link, LinkFault, MemLink};
@@ -50,7 +50,7 @@ fn run_feeds<R: Threads + Sync + Alloc<A = Global>>(
     length: usize,
 ) -> Result<(u8, MemLink, usize), Fail> {
     let alloc = rt.alloc();
-    let words = words_of(alloc, mode)?;
+    let line = read_line(alloc, mode)?;
     let mut link = Feeds {
         left: length,
         ends: 0,
@@ -64,7 +64,7 @@ fn run_feeds<R: Threads + Sync + Alloc<A = Global>>(
         rt,
         gate: &OpenGate,
     };
-    let ended = run(alloc, &words, &mut devices, &mut errors);
+    let ended = run(alloc, &line, &mut devices, &mut errors);
     Ok((ended, errors, link.ends))
 }
 

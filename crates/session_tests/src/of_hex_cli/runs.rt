@@ -4,6 +4,7 @@ use hex_cli::run;
 use hex_devices::Devices;
 use hex_io::{Bytes, File, MemLink, MemShelf, Word};
 use hex_plan::MemArchive;
+use hexd_args::CommandLine;
 use search_team::{Gate, OpenGate};
 use std::alloc::Global;
 use std::process::Abort;
@@ -54,16 +55,15 @@ pub struct RunResult {
     pub archive: MemArchive,
 }
 
-/// The words of a line, with one space between two; an empty line has none.
-pub(super) fn words_of(alloc: Global, line: &str) -> Result<Vec<Word>, Fail> {
+/// The command line of these words, with one space between two; an empty text has none.
+pub(super) fn read_line(alloc: Global, text: &str) -> Result<CommandLine, Fail> {
     let mut words = Vec::new(alloc);
-    if line.is_empty() {
-        return Ok(words);
+    if !text.is_empty() {
+        for word in text.split(' ') {
+            words.push(Word::of(String::from_str(alloc, word)?))?;
+        }
     }
-    for word in line.split(' ') {
-        words.push(Word::of(String::from_str(alloc, word)?))?;
-    }
-    Ok(words)
+    Ok(CommandLine::read(alloc, words)?)
 }
 
 fn number_list(alloc: Global, number: Option<u32>) -> Result<Vec<u32>, Fail> {
@@ -115,7 +115,7 @@ pub(super) fn run_at<R: Threads + Sync + Alloc<A = Global>, G: Gate + Sync>(
     gate: &G,
 ) -> Result<RunResult, Fail> {
     let alloc = rt.alloc();
-    let words = words_of(alloc, case.words)?;
+    let line = read_line(alloc, case.words)?;
     let mut link = link_over(alloc, case.input, case.piece, case.bad_read, case.bad_write)?;
     let mut errors = link_over(alloc, b"", 3, None, case.bad_error)?;
     let mut shelf = shelf_with(alloc, case.file, case.bad_fetch)?;
@@ -127,7 +127,7 @@ pub(super) fn run_at<R: Threads + Sync + Alloc<A = Global>, G: Gate + Sync>(
         rt,
         gate,
     };
-    let status = run(alloc, &words, &mut devices, &mut errors);
+    let status = run(alloc, &line, &mut devices, &mut errors);
     Ok(RunResult {
         status,
         link,

@@ -20,43 +20,44 @@ use Rattle.hex_cli.proofs.Leavings.{long_as, played, simulated}
 use Rattle.hex_cli.proofs.top.run.Goals as goal
 
 pub returns-clause-usage : goal.returns-clause-usage
-returns-clause-usage g c
-    = λ e. c.serve-end.ensures.usage (same_end c.serve-end.result Usage (sym c.status.ensures ∙ e))
+returns-clause-usage g c = (
+  λ e. c.serve-end.ensures.usage.0 (same_end c.serve-end.result Usage (sym c.status.ensures ∙ e)),
+  λ none. c.status.ensures ∙ ap status_of (c.serve-end.ensures.usage.1 none),
+)
 
 pub returns-clause-well_formed : goal.returns-clause-well_formed
 returns-clause-well_formed g c = λ served.
-    c.serve-end.ensures.well_formed (λ e. served.0 (c.status.ensures ∙ ap status_of e))
-    (λ e. served.1 (c.status.ensures ∙ ap status_of e))
+    c.serve-end.ensures.well_formed (λ e. served (c.status.ensures ∙ ap status_of e))
 
 -- ---- mode htp
 
 pub returns-clause-conversed : goal.returns-clause-conversed
 returns-clause-conversed g c =
-    in_mode HasPlayed Htp c.args.words.now c.status.result c.serve-end.result
+    in_mode HasPlayed Htp c.args.line.now c.status.result c.serve-end.result
     c.args.devices.now c.serve-end.new.devices c.status.ensures c.serve-end.ensures.does
     (played c.args.devices.now c.serve-end.new.devices)
 
 pub returns-clause-headline : goal.returns-clause-headline
 returns-clause-headline g c =
-    in_mode HasHeadline Htp c.args.words.now c.status.result c.serve-end.result
+    in_mode HasHeadline Htp c.args.line.now c.status.result c.serve-end.result
     c.args.devices.now c.serve-end.new.devices c.status.ensures c.serve-end.ensures.does
     (has_headline c.args.devices.now c.serve-end.new.devices)
 
 pub returns-clause-good_turns : goal.returns-clause-good_turns
 returns-clause-good_turns g c =
-    in_mode HasGoodTurns Htp c.args.words.now c.status.result c.serve-end.result
+    in_mode HasGoodTurns Htp c.args.line.now c.status.result c.serve-end.result
     c.args.devices.now c.serve-end.new.devices c.status.ensures c.serve-end.ensures.does
     (λ o end d. d)
 
 pub returns-clause-threats : goal.returns-clause-threats
 returns-clause-threats g c =
-    in_mode HasKnownThreats Htp c.args.words.now c.status.result c.serve-end.result
+    in_mode HasKnownThreats Htp c.args.line.now c.status.result c.serve-end.result
     c.args.devices.now c.serve-end.new.devices c.status.ensures c.serve-end.ensures.does
     (known_threats c.args.devices.now c.serve-end.new.devices)
 
 pub returns-clause-determined : goal.returns-clause-determined
 returns-clause-determined g c =
-    in_mode Determines Htp c.args.words.now c.status.result c.serve-end.result
+    in_mode Determines Htp c.args.line.now c.status.result c.serve-end.result
     c.args.devices.now c.serve-end.new.devices c.status.ensures c.serve-end.ensures.does
     (determines c.args.devices.now c.serve-end.new.devices)
 
@@ -64,26 +65,26 @@ returns-clause-determined g c =
 
 pub returns-clause-checked : goal.returns-clause-checked
 returns-clause-checked g c =
-    in_mode (λ o. AnswersBy IsCheckText) Check c.args.words.now c.status.result c.serve-end.result
+    in_mode (λ o. AnswersBy IsCheckText) Check c.args.line.now c.status.result c.serve-end.result
     c.args.devices.now c.serve-end.new.devices c.status.ensures c.serve-end.ensures.does
     (λ o end d. d)
 
 pub returns-clause-migrated : goal.returns-clause-migrated
 returns-clause-migrated g c =
-    in_mode (λ o. AnswersBy IsMigrateText) Migrate c.args.words.now c.status.result
+    in_mode (λ o. AnswersBy IsMigrateText) Migrate c.args.line.now c.status.result
     c.serve-end.result
     c.args.devices.now c.serve-end.new.devices c.status.ensures c.serve-end.ensures.does
     (λ o end d. d)
 
 pub returns-clause-audited : goal.returns-clause-audited
 returns-clause-audited g c =
-    in_mode (λ o. AnswersBy IsAuditText) Audit c.args.words.now c.status.result c.serve-end.result
+    in_mode (λ o. AnswersBy IsAuditText) Audit c.args.line.now c.status.result c.serve-end.result
     c.args.devices.now c.serve-end.new.devices c.status.ensures c.serve-end.ensures.does
     (λ o end d. d)
 
 pub returns-clause-solved : goal.returns-clause-solved
 returns-clause-solved g c =
-    in_mode (λ o. AnswersBy (IsSolveText o.hsearch o.budget)) Solve c.args.words.now
+    in_mode (λ o. AnswersBy (IsSolveText o.hsearch o.budget)) Solve c.args.line.now
     c.status.result c.serve-end.result
     c.args.devices.now c.serve-end.new.devices c.status.ensures c.serve-end.ensures.does
     (λ o end d. d)
@@ -92,13 +93,13 @@ returns-clause-solved g c =
 
 pub returns-clause-simulated : goal.returns-clause-simulated
 returns-clause-simulated g c =
-    in_mode (HandsInBy IsSimulation) Sim c.args.words.now c.status.result c.serve-end.result
+    in_mode (HandsInBy IsSimulation) Sim c.args.line.now c.status.result c.serve-end.result
     c.args.devices.now c.serve-end.new.devices c.status.ensures c.serve-end.ensures.does
     (simulated c.args.devices.now c.serve-end.new.devices)
 
 pub returns-clause-benchmarked : goal.returns-clause-benchmarked
 returns-clause-benchmarked g c =
-    in_mode (HandsInBy IsBenchmark) Bench c.args.words.now c.status.result c.serve-end.result
+    in_mode (HandsInBy IsBenchmark) Bench c.args.line.now c.status.result c.serve-end.result
     c.args.devices.now c.serve-end.new.devices c.status.ensures c.serve-end.ensures.does
     (λ o end d. d)
 
