@@ -12,7 +12,7 @@ use Rattle.std.proofs.lemmas.List.Folds.{list_all-append, list_any-append}
 use Rattle.std.proofs.lemmas.List.Sums.{sum_by-append}
 use Rattle.std.proofs.lemmas.List.Edits.{remove-append_left, remove-append_right}
 use Rattle.hex_cells.specs.Sets.{has}
-use Rattle.edge_tables.specs.Covers.{all_have, any_has, lines_of, picked}
+use Rattle.edge_tables.specs.Covers.{all_have, any_has, lines_together, picked}
 use Rattle.edge_tables.specs.declared.covers.Choice.{Choice}
 
 -- ---- one more
@@ -55,10 +55,10 @@ all_have_more choices c k =
     ∙ ap (λ b. all_have choices k && b) (and_true (has c.carrier k))
 
 pub lines_of_more : (choices : List Choice) (c : Choice)
-    → lines_of (choices ++ c ∷ []) ≡ lines_of choices + c.lines
+    → lines_together (choices ++ c ∷ []) ≡ lines_together choices + c.lines
 lines_of_more choices c =
     sum_by-append (λ (choice : Choice). choice.lines) choices (c ∷ [])
-    ∙ ap (λ n. lines_of choices + n) (zero-add c.lines)
+    ∙ ap (λ n. lines_together choices + n) (zero-add c.lines)
 
 -- one more place: that of a carrier, or of none
 pub picked_more : (list : List Choice) (places : List ℕ) (i : ℕ) (c : Choice) → i < length places

@@ -5,7 +5,7 @@ use Rattle.std.specs.List.{slice_get}
 use Rattle.std.proofs.lemmas.List.{append-nil, get_or-map, get_or_append_left, length-append}
 use Rattle.std.proofs.lemmas.List.{length-map, map-set}
 use Rattle.std.proofs.Math.Seq.{get_or-append_seam}
-use Rattle.edge_tables.specs.Entries.{IsNeedless, IsServed, Keeps}
+use Rattle.edge_tables.specs.Entries.{IsNeedless, HasStandIn, IsPrefixOf}
 use Rattle.std.proofs.lemmas.Option.{slice_get_past, slice_get_read}
 use Rattle.edge_tables.specs.declared.tables.EdgeEntry.{EdgeEntry}
 use Rattle.edge_tables.specs.declared.tables.Slot.{Slot}
@@ -56,7 +56,7 @@ entries_kept slots entries i Q view past =
 
 -- an entry that was put is served, and stays so
 pub served_by_put : (old new : List EdgeEntry) (entry : EdgeEntry)
-    → (new ≡ old ++ entry ∷ []) ⊎ ((new ≡ old) × IsNeedless old entry) → IsServed new entry
+    → (new ≡ old ++ entry ∷ []) ⊎ ((new ≡ old) × IsNeedless old entry) → HasStandIn new entry
 served_by_put old new entry (inl e) = rw e (
   length old,
   entry,
@@ -67,15 +67,15 @@ served_by_put old new entry (inl e) = rw e (
 served_by_put old new entry (inr (e, (k, one, l, there, replaces))) =
     rw e (k, one, l, there, (replaces.0, replaces.1.0))
 
-pub still_served : (old new : List EdgeEntry) (entry : EdgeEntry) → Keeps old new → IsServed old entry
-    → IsServed new entry
+pub still_served : (old new : List EdgeEntry) (entry : EdgeEntry) → IsPrefixOf old new → HasStandIn old entry
+    → HasStandIn new entry
 still_served old new entry (more, e) (k, one, l, there, fits) = rw e
     (k, one, simp length-append (omega arith), get_or_append_left old more one k l ∙ there, fits)
 
 pub kept_by_put : (old new : List EdgeEntry) (entry : EdgeEntry)
-    → (new ≡ old ++ entry ∷ []) ⊎ ((new ≡ old) × IsNeedless old entry) → Keeps old new
+    → (new ≡ old ++ entry ∷ []) ⊎ ((new ≡ old) × IsNeedless old entry) → IsPrefixOf old new
 kept_by_put old new entry (inl e) = (entry ∷ [], e)
 kept_by_put old new entry (inr (e, _)) = ([], e ∙ sym (append-nil old))
 
-pub keeps_more : (old new newer : List EdgeEntry) → Keeps old new → Keeps new newer → Keeps old newer
+pub keeps_more : (old new newer : List EdgeEntry) → IsPrefixOf old new → IsPrefixOf new newer → IsPrefixOf old newer
 keeps_more old new newer (a, e) (b, f) = (a ++ b, f ∙ ap (λ es. es ++ b) e ∙ append_assoc old a b)

@@ -7,8 +7,8 @@ use Rattle.edge_tables.specs.declared.covers.Choice.{Choice}
 use Rattle.edge_tables.specs.declared.tables.EdgeEntry.{EdgeEntry}
 
 -- an entry's carrier, with its lines
-abbrev pub choice_of : EdgeEntry → Choice
-choice_of entry = record { carrier = entry.carrier; lines = entry.lines }
+abbrev pub choice_for : EdgeEntry → Choice
+choice_for entry = record { carrier = entry.carrier; lines = entry.lines }
 
 -- those at the places; none for a place past the end of the list
 abbrev pub picked : List Choice → List ℕ → List Choice
@@ -23,8 +23,8 @@ abbrev pub all_have : List Choice → ℕ → Bool
 all_have choices cell = list_all (λ (choice : Choice). has choice.carrier cell) choices
 
 -- how many lines they cost
-abbrev pub lines_of : List Choice → ℕ
-lines_of choices = sum_by (λ (choice : Choice). choice.lines) choices
+abbrev pub lines_together : List Choice → ℕ
+lines_together choices = sum_by (λ (choice : Choice). choice.lines) choices
 
 -- no cell of the region is in all the carriers
 abbrev pub HaveNoneInCommon : List Choice → ℕ → Type 0

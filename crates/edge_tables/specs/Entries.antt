@@ -7,17 +7,17 @@ use Rattle.edge_tables.specs.declared.tables.EdgeEntry.{EdgeEntry}
 use Rattle.edge_tables.specs.declared.tables.Key.{Key}
 
 -- the entry has that key, and its carrier lies inside the region
-abbrev pub Fits : Key → ℕ → EdgeEntry → Type 0
-Fits key region entry = (entry.key ≡ key) × IsSubset entry.carrier region
+abbrev pub FitsRegion : Key → ℕ → EdgeEntry → Type 0
+FitsRegion key region entry = (entry.key ≡ key) × IsSubset entry.carrier region
 
 -- one of the entries has that key, and its carrier lies inside the region
 abbrev pub HasFit : List EdgeEntry → Key → ℕ → Type 0
-HasFit entries key region = Any (Fits key region) entries
+HasFit entries key region = Any (FitsRegion key region) entries
 
 -- the carrier of one of these misses the cell
 abbrev pub HasFitWithout : List EdgeEntry → Key → ℕ → ℕ → Type 0
 HasFitWithout entries key region cell =
-    Any (λ (entry : EdgeEntry). Fits key region entry × (has entry.carrier cell ≡ false)) entries
+    Any (λ (entry : EdgeEntry). FitsRegion key region entry × (has entry.carrier cell ≡ false)) entries
 
 -- the one makes the other needless, if they have one key: its carrier lies inside the other's, and
 -- it has at most twice as many lines, or if the carriers are equal at most as many
@@ -32,9 +32,9 @@ IsNeedless entries new =
 
 -- one of the entries stands wherever this one does: it has the same key, and its carrier lies
 -- inside this one's
-abbrev pub IsServed : List EdgeEntry → EdgeEntry → Type 0
-IsServed entries entry = HasFit entries entry.key entry.carrier
+abbrev pub HasStandIn : List EdgeEntry → EdgeEntry → Type 0
+HasStandIn entries entry = HasFit entries entry.key entry.carrier
 
 -- the new entries are the old ones, and then others
-abbrev pub Keeps : List EdgeEntry → List EdgeEntry → Type 0
-Keeps old new = (more : List EdgeEntry) × (new ≡ old ++ more)
+abbrev pub IsPrefixOf : List EdgeEntry → List EdgeEntry → Type 0
+IsPrefixOf old new = (more : List EdgeEntry) × (new ≡ old ++ more)

@@ -5,8 +5,8 @@ ghost use Rattle.std.specs.Prelude.{◌≡◌, ℕ, ◌+◌, ◌<◌, ◌≤◌,
 ghost use Rattle.std.specs.Prelude.{get_or, length, map, min};
 ghost use Rattle.std.specs.List.{remove, slice_get};
 ghost use Rattle.hex_cells.specs.Sets.{has};
-ghost use Rattle.edge_tables.specs.Covers.{HaveNoneInCommon, IsCoverOrNone, any_has, choice_of};
-ghost use Rattle.edge_tables.specs.Covers.{lines_of, picked};
+ghost use Rattle.edge_tables.specs.Covers.{HaveNoneInCommon, IsCoverOrNone, any_has, choice_for};
+ghost use Rattle.edge_tables.specs.Covers.{lines_together, picked};
 
 use super::stops::Stop;
 use super::tables::EdgeEntry;
@@ -44,7 +44,7 @@ pub struct Choice {
 
 /// The carriers of these entries with their lines.
 pub fn choices_of(alloc: Global, entries: &[EdgeEntry]) -> Result<Vec<Choice>, Stop>
-    ensures choices { IfOk result (λ list. list.items ≡ map choice_of entries.now) }
+    ensures choices { IfOk result (λ list. list.items ≡ map choice_for entries.now) }
     ensures refused { IfErr result (λ stop. stop ≡ Stop.Memory) }
 {
     let mut list = Vec::new(alloc);
@@ -89,7 +89,7 @@ pub fn cover(
 /// The cells of these carriers together, and a line more than they cost.
 pub fn together(list: &[Choice], chosen: &[u32]) -> (CellSet, u32)
     ensures cells { (k : ℕ) → has result.0 k ≡ any_has (picked list.now chosen.now) k }
-    ensures lines { result.1 ≡ min (1 + lines_of (picked list.now chosen.now)) u32.MAX }
+    ensures lines { result.1 ≡ min (1 + lines_together (picked list.now chosen.now)) u32.MAX }
 {
     let mut union = CellSet::none();
     let mut lines = 1u32;

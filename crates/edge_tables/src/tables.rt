@@ -7,8 +7,8 @@ ghost use Rattle.std.specs.Prelude.{OnErr, OnOk, length, slice_set};
 ghost use Rattle.std.specs.List.{slice_get};
 ghost use Rattle.hex_cells.specs.Sets.{has, members};
 ghost use Rattle.hex_cells.specs.declared.board_size.TheConstants.{MOST_CELLS};
-ghost use Rattle.edge_tables.specs.Entries.{Fits, HasFit, HasFitWithout, IsNeedless, IsServed};
-ghost use Rattle.edge_tables.specs.Entries.{Keeps, Replaces};
+ghost use Rattle.edge_tables.specs.Entries.{FitsRegion, HasFit, HasFitWithout, IsNeedless, HasStandIn};
+ghost use Rattle.edge_tables.specs.Entries.{IsPrefixOf, Replaces};
 
 use super::buckets::{Heads, NOWHERE, bucket_of, mixed};
 use super::stops::Stop;
@@ -100,7 +100,7 @@ fn bucket(key: &Key) -> usize {
 
 // Whether the entry has that key, and its carrier lies inside the region.
 fn fits(entry: &EdgeEntry, key: &Key, region: CellSet) -> bool
-    ensures { IsTrue result ↔ Fits key.now region entry.now }
+    ensures { IsTrue result ↔ FitsRegion key.now region entry.now }
 {
     entry.key == *key && entry.carrier.inside(region)
 }
@@ -209,7 +209,7 @@ impl Tables {
     /// Of the entries with that key inside the region the one with the least of this.
     pub fn least(&self, key: &Key, region: CellSet, measure: Measure) -> Option<EdgeEntry>
         ensures there { IfSome result (Contains self.now) }
-        ensures fits { IfSome result (Fits key.now region) }
+        ensures fits { IfSome result (FitsRegion key.now region) }
     {
         let mut best = None;
         let mut least = u64::MAX;
@@ -230,7 +230,7 @@ impl Tables {
     /// The entries with that key inside the region.
     pub fn list(&self, alloc: Global, key: &Key, region: CellSet) -> Result<Vec<EdgeEntry>, Stop>
         ensures there { IfOk result (λ list. All (Contains self.now) list.items) }
-        ensures fits { IfOk result (λ list. All (Fits key.now region) list.items) }
+        ensures fits { IfOk result (λ list. All (FitsRegion key.now region) list.items) }
         ensures refused { IfErr result (λ stop. stop ≡ Stop.Memory) }
     {
         let mut list = Vec::new(alloc);
@@ -247,7 +247,7 @@ impl Tables {
         Ok(list)
     }
 
-    /// Keeps an entry, unless one that is kept makes it needless; those that it makes needless go.
+    /// IsPrefixOf an entry, unless one that is kept makes it needless; those that it makes needless go.
     pub fn put(&mut self, entry: &EdgeEntry) -> Result<(), Stop>
         ensures put { OnOk result ((self.new ≡ self.old ++ entry.now ∷ [])
             ⊎ ((self.new ≡ self.old) × IsNeedless self.old entry.now)) }
@@ -273,8 +273,8 @@ impl Tables {
 
     /// Puts all entries of others.
     pub fn put_all(&mut self, others: &Tables) -> Result<(), Stop>
-        ensures kept { Keeps self.old self.new }
-        ensures served { OnOk result (All (IsServed self.new) others.now) }
+        ensures kept { IsPrefixOf self.old self.new }
+        ensures served { OnOk result (All (HasStandIn self.new) others.now) }
         ensures full { result ≡ Err Stop.Full → MOST_ENTRIES ≤ length self.new }
     {
         'slots: for slot in others.slots.as_slice() {

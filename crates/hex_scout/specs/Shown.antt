@@ -23,6 +23,6 @@ HasEntryOn entries board player kind = Any
 
 -- the entries show that the player to move wins, by a semi one of his, or that he loses, by a full
 -- one of the other player's
-abbrev pub Shows : List EdgeEntry → State → Bool → Type 0
-Shows entries state true = HasEntryOn entries state.board state.mover Semi
-Shows entries state false = HasEntryOn entries state.board (other_of state.mover) Full
+abbrev pub ShowsOutcome : List EdgeEntry → State → Bool → Type 0
+ShowsOutcome entries state true = HasEntryOn entries state.board state.mover Semi
+ShowsOutcome entries state false = HasEntryOn entries state.board (other_of state.mover) Full

@@ -4,9 +4,9 @@
 ghost use Rattle.std.specs.Prelude.{◌≡◌, ◌+◌, ◌≤◌, [], All, Bool, IfErr, IfOk, None, Ok, OnOk};
 ghost use Rattle.std.specs.Prelude.{Some, length};
 ghost use Rattle.std.specs.Borrow.{sem};
-ghost use Rattle.edge_tables.specs.Entries.{IsServed, Keeps};
+ghost use Rattle.edge_tables.specs.Entries.{HasStandIn, IsPrefixOf};
 ghost use Rattle.hex_scout.specs.Lending.{LendsTables};
-ghost use Rattle.hex_scout.specs.Shown.{Shows};
+ghost use Rattle.hex_scout.specs.Shown.{ShowsOutcome};
 
 use super::distances::add_ways;
 use super::nodes::{Effort, MOST_NODES, NEVER, Nodes};
@@ -84,8 +84,8 @@ impl Search {
 
     /// Takes what another search found.
     pub fn take(&mut self, other: &Search) -> Result<(), Stop>
-        ensures kept { Keeps self.old.tables self.new.tables }
-        ensures served { OnOk result (All (IsServed self.new.tables) other.now.tables) }
+        ensures kept { IsPrefixOf self.old.tables self.new.tables }
+        ensures served { OnOk result (All (HasStandIn self.new.tables) other.now.tables) }
         ensures nodes { self.new.nodes ≡ self.old.nodes }
         ensures order { self.new.order ≡ self.old.order }
     {
@@ -102,7 +102,7 @@ impl Search {
         ensures within { result.entered ≤ budget }
         ensures spent { result.by_mover ≡ Ok None → result.entered ≡ budget }
         ensures shown { (by_mover : Bool) → result.by_mover ≡ Ok (Some by_mover)
-            → Shows self.new.tables root.now by_mover }
+            → ShowsOutcome self.new.tables root.now by_mover }
         ensures nodes { length self.new.nodes.list.items
             ≤ length self.old.nodes.list.items + result.entered }
     {
@@ -147,7 +147,7 @@ impl Search {
         ensures known { (by_mover : Bool) → result ≡ Ok (Some by_mover)
             → length self.new.nodes.list.items ≡ length self.old.nodes.list.items }
         ensures shown { (by_mover : Bool) → result ≡ Ok (Some by_mover)
-            → Shows self.new.tables root.now by_mover }
+            → ShowsOutcome self.new.tables root.now by_mover }
     {
         match self.go_down(alloc, root, path)? {
             Way::Known(by_mover) => Ok(Some(by_mover)),
@@ -164,7 +164,7 @@ impl Search {
     fn go_down(&mut self, alloc: Global, root: &State, path: &mut Vec<State>) -> Result<Way, Stop>
         ensures count { length self.new.nodes.list.items ≡ length self.old.nodes.list.items }
         ensures shown { (by_mover : Bool) → result ≡ Ok (Way.Known by_mover)
-            → Shows self.new.tables root.now by_mover }
+            → ShowsOutcome self.new.tables root.now by_mover }
     {
         'rounds: for _round in 0..MOST_NODES {
             if let Some(by_mover) = self.known(root) {
@@ -182,7 +182,7 @@ impl Search {
     // Whether the player to move wins, if an entry says so.
     fn known(&self, state: &State) -> Option<bool>
         ensures { (by_mover : Bool) → result ≡ Some by_mover
-            → Shows self.now.tables state.now by_mover }
+            → ShowsOutcome self.now.tables state.now by_mover }
     {
         let empties = state.board.empties();
         if self.tables.has(&state.own_key(Kind::Semi), empties) {

@@ -1,6 +1,6 @@
 use Rattle.std.proofs.Common.{Contains}
 use Rattle.std.proofs.lemmas.List.Elements.{All-push}
-use Rattle.edge_tables.specs.Entries.{Fits}
+use Rattle.edge_tables.specs.Entries.{FitsRegion}
 use Rattle.edge_tables.proofs.Slots.{entry_there}
 use Rattle.edge_tables.proofs.tables.Tables.list.Goals as goal
 use Rattle.edge_tables.proofs.tables.Tables.list.Goals.{then-fits+in_ok-push, else-fits}
@@ -12,7 +12,7 @@ loop-step-preserved c =
     elim c.if-fits.branch [
       | then-fits+in_ok-push w ↦ rw (w.list-is, w.in_ok-push.ensures.items) (record {
         there = All-push (Contains c.args.self.now) _ _ c.loop-step.invariant.there there;
-        fits = All-push (Fits c.args.key.now c.args.region) _ _ c.loop-step.invariant.fits
+        fits = All-push (FitsRegion c.args.key.now c.args.region) _ _ c.loop-step.invariant.fits
             (c.fits.ensures.0 w.if-fits.true);
       })
       | else-fits w ↦ rw w.list-is c.loop-step.invariant
