@@ -1,6 +1,6 @@
 //! Buckets: where in a list to look for what was put there. What is found is compared.
 
-ghost use Rattle.std.specs.Prelude.{◌≡◌, ◌<◌, IfOk, get_or, length, slice_set};
+ghost use Rattle.std.specs.Prelude.{◌≡◌, ◌<◌, All, IfOk, get_or, length, slice_set};
 
 use hex_cells::CellSet;
 use std::alloc::{AllocError, Global};
@@ -33,6 +33,7 @@ impl Heads {
     /// Buckets with nothing in them.
     pub fn make(alloc: Global) -> Result<Heads, AllocError>
         ensures count { IfOk result (λ h. length h.places.items ≡ BUCKETS) }
+        ensures none { IfOk result (λ h. All (λ place. place ≡ NOWHERE) h.places.items) }
     {
         let mut places = Vec::new(alloc);
         places.resize(BUCKETS, NOWHERE)?;

@@ -1,6 +1,6 @@
 //! The entries of a report on which an entry rests: marked, and counted.
 
-ghost use Rattle.std.specs.Prelude.{◌≡◌, false, get_or};
+ghost use Rattle.std.specs.Prelude.{◌≡◌, All, IfErr, IfOk, true, false, get_or, length, slice_set};
 
 use super::lists::value_at;
 use super::stops::Stop;
@@ -21,11 +21,12 @@ pub fn mark(marks: &mut [bool], entries: &[Entry], number: u32) {
 
 /// Whether the place is marked. It is not afterwards.
 pub fn take_mark(marks: &mut [bool], place: usize) -> bool
-    ensures { result ≡ get_or marks.old place false }
+    ensures value { result ≡ get_or marks.old place false }
+    ensures after { marks.new ≡ slice_set marks.old place false }
 {
     let marked = is_marked(marks, place);
-    if let Some(mark) = marks.get_mut(place) {
-        *mark = false;
+    if place < marks.len() {
+        marks[place] = false;
     }
     marked
 }
@@ -38,9 +39,12 @@ fn is_marked(marks: &[bool], place: usize) -> bool
 }
 
 // Marks a place.
-fn set_mark(marks: &mut [bool], number: u32) {
-    if let Some(mark) = marks.get_mut(number as usize) {
-        *mark = true;
+fn set_mark(marks: &mut [bool], number: u32)
+    ensures { marks.new ≡ slice_set marks.old number true }
+{
+    let place = number as usize;
+    if place < marks.len() {
+        marks[place] = true;
     }
 }
 
@@ -71,7 +75,10 @@ pub struct Counter {
 
 impl Counter {
     /// Room for the entries of a report.
-    pub fn make(alloc: Global) -> Result<Counter, AllocError> {
+    pub fn make(alloc: Global) -> Result<Counter, AllocError>
+        ensures count { IfOk result (λ c. length c.marks.items ≡ MOST_ENTRIES) }
+        ensures unmarked { IfOk result (λ c. All (λ mark. mark ≡ false) c.marks.items) }
+    {
         let marks = vec![in alloc; false; MOST_ENTRIES]?;
         Ok(Counter {
             marks,
@@ -81,7 +88,9 @@ impl Counter {
 
     /// How many entries the entry with this number rests on, itself among them. It costs what
     /// these are, and not what the report is.
-    pub fn lines_of(&mut self, entries: &[Entry], number: u32) -> Result<u32, Stop> {
+    pub fn lines_of(&mut self, entries: &[Entry], number: u32) -> Result<u32, Stop>
+        ensures refused { IfErr result (λ stop. stop ≡ Stop.Memory) }
+    {
         self.list.clear();
         self.want(number)?;
         for place in 0..MOST_ENTRIES {
@@ -96,7 +105,9 @@ impl Counter {
     }
 
     // Lists an entry, unless it is listed.
-    fn want(&mut self, number: u32) -> Result<(), Stop> {
+    fn want(&mut self, number: u32) -> Result<(), Stop>
+        ensures { IfErr result (λ stop. stop ≡ Stop.Memory) }
+    {
         if !is_marked(&self.marks, number as usize) {
             set_mark(&mut self.marks, number);
             self.list.push(number)?;
@@ -105,7 +116,9 @@ impl Counter {
     }
 
     // Lists the premises of an entry with that cause.
-    fn want_premises(&mut self, cause: Cause) -> Result<(), Stop> {
+    fn want_premises(&mut self, cause: Cause) -> Result<(), Stop>
+        ensures { IfErr result (λ stop. stop ≡ Stop.Memory) }
+    {
         let (numbers, count) = premises(cause);
         for place in 0..count {
             self.want(value_at(&numbers, place))?;

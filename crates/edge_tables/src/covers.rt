@@ -1,7 +1,12 @@
 //! Covers: few carriers that have no cell in common, so that each stone of the opponent's is
 //! answered by one of them.
 
-ghost use Rattle.std.specs.Prelude.{◌≡◌, ◌≤◌, ◌⊎◌, [], IfOk, length};
+ghost use Rattle.std.specs.Prelude.{◌≡◌, ℕ, ◌+◌, ◌<◌, ◌≤◌, ◌⊎◌, [], IfErr, IfOk, IsTrue};
+ghost use Rattle.std.specs.Prelude.{get_or, length, map, min};
+ghost use Rattle.std.specs.List.{remove, slice_get};
+ghost use Rattle.hex_cells.specs.Sets.{has};
+ghost use Rattle.edge_tables.specs.Covers.{HaveNoneInCommon, IsCoverOrNone, any_has, choice_for};
+ghost use Rattle.edge_tables.specs.Covers.{lines_together, picked};
 
 use super::stops::Stop;
 use super::tables::EdgeEntry;
@@ -38,9 +43,12 @@ pub struct Choice {
 }
 
 /// The carriers of these entries with their lines.
-pub fn choices_of(alloc: Global, entries: &[EdgeEntry]) -> Result<Vec<Choice>, Stop> {
+pub fn choices_of(alloc: Global, entries: &[EdgeEntry]) -> Result<Vec<Choice>, Stop>
+    ensures choices { IfOk result (λ list. list.items ≡ map choice_for entries.now) }
+    ensures refused { IfErr result (λ stop. stop ≡ Stop.Memory) }
+{
     let mut list = Vec::new(alloc);
-    for entry in entries {
+    'entries: for entry in entries {
         list.push(Choice {
             carrier: entry.carrier,
             lines: entry.lines,
@@ -58,6 +66,8 @@ pub fn cover(
     saving: Saving,
 ) -> Result<Vec<u32>, Stop>
     ensures few { IfOk result (λ chosen. (chosen.items ≡ []) ⊎ (2 ≤ length chosen.items)) }
+    ensures apart { IfOk result (λ chosen. IsCoverOrNone list.now region chosen.items) }
+    ensures refused { IfErr result (λ stop. stop ≡ Stop.Memory) }
 {
     let mut best = Vec::new(alloc);
     let mut least = u64::MAX;
@@ -77,10 +87,13 @@ pub fn cover(
 }
 
 /// The cells of these carriers together, and a line more than they cost.
-pub fn together(list: &[Choice], chosen: &[u32]) -> (CellSet, u32) {
+pub fn together(list: &[Choice], chosen: &[u32]) -> (CellSet, u32)
+    ensures cells { (k : ℕ) → has result.0 k ≡ any_has (picked list.now chosen.now) k }
+    ensures lines { result.1 ≡ min (1 + lines_together (picked list.now chosen.now)) u32.MAX }
+{
     let mut union = CellSet::none();
     let mut lines = 1u32;
-    for number in chosen {
+    'chosen: for number in chosen {
         if let Some(choice) = list.get(*number as usize) {
             union = union.union(choice.carrier);
             lines = lines.saturating_add(choice.lines);
@@ -96,7 +109,10 @@ fn chosen_from(
     region: CellSet,
     saving: Saving,
     start: usize,
-) -> Result<Vec<u32>, Stop> {
+) -> Result<Vec<u32>, Stop>
+    ensures apart { IfOk result (λ chosen. IsCoverOrNone list.now region chosen.items) }
+    ensures refused { IfErr result (λ stop. stop ≡ Stop.Memory) }
+{
     let mut chosen = Vec::new(alloc);
     let mut left = region;
     let mut union = CellSet::none();
@@ -107,7 +123,7 @@ fn chosen_from(
         left = left.meet(first.carrier);
         union = first.carrier;
     }
-    for _step in 0..MOST_CHOSEN {
+    'steps: for _step in 0..MOST_CHOSEN {
         if left.is_empty() {
             return Ok(chosen);
         }
@@ -154,9 +170,12 @@ fn added_cost(choice: &Choice, union: CellSet, saving: Saving) -> u64 {
 }
 
 // The same without those that are not needed, that with the most lines first.
-fn thinned(list: &[Choice], region: CellSet, chosen: Vec<u32>) -> Vec<u32> {
+fn thinned(list: &[Choice], region: CellSet, chosen: Vec<u32>) -> Vec<u32>
+    ensures { IsCoverOrNone list.now region chosen.items
+        → IsCoverOrNone list.now region result.items }
+{
     let mut kept = chosen;
-    for _step in 0..MOST_CHOSEN {
+    'steps: for _step in 0..MOST_CHOSEN {
         let place = longest_needless(list, region, &kept);
         if kept.len() <= place || kept.len() <= 2 {
             return kept;
@@ -167,10 +186,13 @@ fn thinned(list: &[Choice], region: CellSet, chosen: Vec<u32>) -> Vec<u32> {
 }
 
 // The place, among those that are chosen, of the one with the most lines that is not needed.
-fn longest_needless(list: &[Choice], region: CellSet, chosen: &[u32]) -> usize {
+fn longest_needless(list: &[Choice], region: CellSet, chosen: &[u32]) -> usize
+    ensures { result < length chosen.now
+        → HaveNoneInCommon (picked list.now (remove chosen.now result)) region }
+{
     let mut best = chosen.len();
     let mut most = 0u32;
-    for place in 0..chosen.len() {
+    'places: for place in 0..chosen.len() {
         let lines = match choice_at(list, chosen, place) {
             Some(choice) => choice.lines,
             None => 0,
@@ -184,15 +206,21 @@ fn longest_needless(list: &[Choice], region: CellSet, chosen: &[u32]) -> usize {
 }
 
 // The one at this place of those that are chosen.
-fn choice_at(list: &[Choice], chosen: &[u32], place: usize) -> Option<Choice> {
+fn choice_at(list: &[Choice], chosen: &[u32], place: usize) -> Option<Choice>
+    ensures { place < length chosen.now
+        → result ≡ slice_get list.now (get_or chosen.now place 0) }
+{
     let number = chosen.get(place)?;
     list.get(*number as usize).copied()
 }
 
 // Whether the others have no cell in common.
-fn is_needless(list: &[Choice], region: CellSet, chosen: &[u32], place: usize) -> bool {
+fn is_needless(list: &[Choice], region: CellSet, chosen: &[u32], place: usize) -> bool
+    ensures { IsTrue result
+        → HaveNoneInCommon (picked list.now (remove chosen.now place)) region }
+{
     let mut left = region;
-    for other in 0..chosen.len() {
+    'others: for other in 0..chosen.len() {
         if other != place
             && let Some(choice) = choice_at(list, chosen, other)
         {

@@ -12,15 +12,20 @@
 //! in common ([`Tables::common`]). [`cover`] picks the cases of a full entry. [`edge_held`],
 //! [`Counter`] and [`mark`] read the entries of a report.
 //!
-//! **What is proved.** That each call is safe and ends. Of small calls, what they answer: which
-//! entry was put at a place, and how many were; that a put adds one at most, and none if it is
-//! refused; the newest place of a bucket, and whether a place is marked; that a cover has two
-//! carriers at least or none. Of the entries that are found nothing is said: who makes a
-//! certificate of what is kept here has it checked.
+//! **What is proved.** That each call is safe and ends, and gives up only if memory ran out or a
+//! table is full. The [`Tables`] are a list, in which each entry stays at its place: a put adds its
+//! entry at the end, or nothing if it is refused or an entry of the list makes it needless. An
+//! entry that is answered is in the list, has that key, and its carrier lies inside the region; a
+//! cell that [`Tables::common`] leaves out is in no carrier of such an entry. The carriers of a
+//! cover have no cell of the region in common, and are two at least. What [`together`],
+//! [`choices_of`], [`edge_held`] and the small calls answer is exact.
 //!
-//! **What is only tested, or not said.** What is found again, and how soon; that a cover's carriers
-//! have no cell in common. A body that answers nothing is proved; it finds no winner, which the
-//! tests of `hex_found` refuse.
+//! **What is only tested, or not said.** That an entry which was put is found again, which would
+//! need a long proof of the links of a bucket; so a body of [`Tables::has`], [`Tables::least`],
+//! [`Tables::list`] or [`Tables::common`] that finds nothing is proved. It finds no winner, which
+//! the tests of `hex_found` refuse. By trial, and without a promise: which of several covers is
+//! chosen, and the mixed bits by which a bucket is chosen. What [`mark`] marks, and what
+//! [`Counter::lines_of`] counts: it is about the lines of a certificate, and orders entries.
 //!
 //! **Limits.** 2,000,000 entries. A full table ends a search like a spent budget.
 //!

@@ -24,6 +24,10 @@ impl From<AllocError> for Stop {
 }
 
 impl<T: Drop> From<AllocFailed<T>> for Stop {
+    ghost use Rattle.edge_tables.specs.declared.stops.Stop.{Stop};
+
+    ghost from_gives = { λ _ stop. stop ≡ Stop.Memory };
+
     fn from(_refused: AllocFailed<T>) -> Stop {
         Stop::Memory
     }

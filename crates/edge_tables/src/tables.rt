@@ -1,15 +1,21 @@
 //! Entries between the edges of each player, by his stones.
 
-ghost use Rattle.std.specs.Prelude.{◌≡◌, ◌+◌, ◌*◌, ◌^◌, ◌≤◌, [], IfOk, OnErr, length, option_map};
+ghost use Rattle.std.specs.Prelude.{◌≡◌, ℕ, ◌+◌, ◌*◌, ◌^◌, ◌≤◌, ◌↔◌, ◌⊎◌, ◌++◌, [], ◌∷◌};
+ghost use Rattle.std.specs.Prelude.{false, true};
+ghost use Rattle.std.specs.Prelude.{All, Contains, Err, IfErr, IfOk, IfSome, IsTrue, MatchOption};
+ghost use Rattle.std.specs.Prelude.{OnErr, OnOk, length, slice_set};
 ghost use Rattle.std.specs.List.{slice_get};
-ghost use Rattle.hex_cells.specs.Sets.{members};
+ghost use Rattle.hex_cells.specs.Sets.{has, members};
 ghost use Rattle.hex_cells.specs.declared.board_size.TheConstants.{MOST_CELLS};
+ghost use Rattle.edge_tables.specs.Entries.{FitsRegion, HasFit, HasFitWithout, HasStandIn};
+ghost use Rattle.edge_tables.specs.Entries.{IsNeedless, IsPrefixOf, Replaces};
 
 use super::buckets::{Heads, NOWHERE, bucket_of, mixed};
 use super::stops::Stop;
 use conn_store::Kind;
 use hex_cells::{Cell, CellSet, Colour};
 use std::alloc::Global;
+use std::marker::Model;
 
 /// The most entries of the tables: some 200 MB.
 const MOST_ENTRIES: usize = 2_000_000;
@@ -68,6 +74,17 @@ pub struct Tables {
     heads: Heads,
 }
 
+impl Model for Tables {
+    ghost use Rattle.std.specs.Prelude.{List, map};
+    ghost use Rattle.edge_tables.specs.declared.tables.EdgeEntry.{EdgeEntry};
+    ghost use Rattle.edge_tables.specs.declared.tables.Slot.{Slot};
+
+    // The entries that were put, in the order in which they came.
+    ghost Value = { List EdgeEntry };
+
+    ghost view = { λ t. map (λ (s : Slot). s.entry) t.slots.items };
+}
+
 // The bucket of a key.
 fn bucket(key: &Key) -> usize {
     let player = match key.player {
@@ -82,13 +99,17 @@ fn bucket(key: &Key) -> usize {
 }
 
 // Whether the entry has that key, and its carrier lies inside the region.
-fn fits(entry: &EdgeEntry, key: &Key, region: CellSet) -> bool {
+fn fits(entry: &EdgeEntry, key: &Key, region: CellSet) -> bool
+    ensures { IsTrue result ↔ FitsRegion key.now region entry.now }
+{
     entry.key == *key && entry.carrier.inside(region)
 }
 
 // Whether the one makes the other needless: its carrier lies inside the other's, and it has at most
 // twice as many lines, or if the carriers are equal at most as many.
-fn replaces(one: &EdgeEntry, other: &EdgeEntry) -> bool {
+fn replaces(one: &EdgeEntry, other: &EdgeEntry) -> bool
+    ensures { IsTrue result ↔ Replaces one.now other.now }
+{
     if one.carrier == other.carrier {
         return one.lines <= other.lines;
     }
@@ -113,7 +134,8 @@ impl EdgeEntry {
 impl Tables {
     /// Tables without entries.
     pub fn make(alloc: Global) -> Result<Tables, Stop>
-        ensures none { IfOk result (λ t. t.slots.items ≡ []) }
+        ensures none { IfOk result (λ tables. tables ≡ []) }
+        ensures refused { IfErr result (λ stop. stop ≡ Stop.Memory) }
     {
         let heads = Heads::make(alloc)?;
         Ok(Tables {
@@ -124,14 +146,14 @@ impl Tables {
 
     /// How many entries were put, those among them that were made needless.
     pub fn count(&self) -> usize
-        ensures { result ≡ length self.now.slots.items }
+        ensures { result ≡ length self.now }
     {
         self.slots.len()
     }
 
     /// The entry that was put at a place.
     pub fn at(&self, place: usize) -> Option<EdgeEntry>
-        ensures { result ≡ option_map (λ s. s.entry) (slice_get self.now.slots.items place) }
+        ensures { result ≡ slice_get self.now place }
     {
         let slot = self.slots.get(place)?;
         Some(slot.entry)
@@ -139,7 +161,8 @@ impl Tables {
 
     /// Says how many lines the entry at a place has.
     pub fn set_lines(&mut self, place: usize, lines: u32)
-        ensures count { length self.new.slots.items ≡ length self.old.slots.items }
+        ensures { MatchOption (slice_get self.old place) (self.new ≡ self.old)
+            (λ entry. self.new ≡ slice_set self.old place (record entry { lines = lines })) }
     {
         if let Some(slot) = self.slots.get_mut(place) {
             slot.entry.lines = lines;
@@ -147,7 +170,9 @@ impl Tables {
     }
 
     /// Whether there is an entry with that key inside the region.
-    pub fn has(&self, key: &Key, region: CellSet) -> bool {
+    pub fn has(&self, key: &Key, region: CellSet) -> bool
+        ensures { IsTrue result → HasFit self.now key.now region }
+    {
         let mut place = self.heads.newest(bucket(key));
         for _step in 0..MOST_ENTRIES {
             let Some(slot) = self.slots.get(place as usize) else {
@@ -162,7 +187,11 @@ impl Tables {
     }
 
     /// The cells of the region that all carriers inside it have in common.
-    pub fn common(&self, key: &Key, region: CellSet) -> CellSet {
+    pub fn common(&self, key: &Key, region: CellSet) -> CellSet
+        ensures inside { (k : ℕ) → has result k ≡ true → has region k ≡ true }
+        ensures others { (k : ℕ) → has region k ≡ true → has result k ≡ false
+            → HasFitWithout self.now key.now region k }
+    {
         let mut cells = region;
         let mut place = self.heads.newest(bucket(key));
         for _step in 0..MOST_ENTRIES {
@@ -178,7 +207,10 @@ impl Tables {
     }
 
     /// Of the entries with that key inside the region the one with the least of this.
-    pub fn least(&self, key: &Key, region: CellSet, measure: Measure) -> Option<EdgeEntry> {
+    pub fn least(&self, key: &Key, region: CellSet, measure: Measure) -> Option<EdgeEntry>
+        ensures there { IfSome result (Contains self.now) }
+        ensures fits { IfSome result (FitsRegion key.now region) }
+    {
         let mut best = None;
         let mut least = u64::MAX;
         let mut place = self.heads.newest(bucket(key));
@@ -196,7 +228,11 @@ impl Tables {
     }
 
     /// The entries with that key inside the region.
-    pub fn list(&self, alloc: Global, key: &Key, region: CellSet) -> Result<Vec<EdgeEntry>, Stop> {
+    pub fn list(&self, alloc: Global, key: &Key, region: CellSet) -> Result<Vec<EdgeEntry>, Stop>
+        ensures there { IfOk result (λ list. All (Contains self.now) list.items) }
+        ensures fits { IfOk result (λ list. All (FitsRegion key.now region) list.items) }
+        ensures refused { IfErr result (λ stop. stop ≡ Stop.Memory) }
+    {
         let mut list = Vec::new(alloc);
         let mut place = self.heads.newest(bucket(key));
         for _step in 0..MOST_ENTRIES {
@@ -213,10 +249,10 @@ impl Tables {
 
     /// Keeps an entry, unless one that is kept makes it needless; those that it makes needless go.
     pub fn put(&mut self, entry: &EdgeEntry) -> Result<(), Stop>
-        ensures kept { length self.old.slots.items ≤ length self.new.slots.items }
-        ensures fewer { length self.new.slots.items ≤ length self.old.slots.items + 1 }
-        ensures refused { OnErr result
-            (length self.new.slots.items ≡ length self.old.slots.items) }
+        ensures put { OnOk result ((self.new ≡ self.old ++ entry.now ∷ [])
+            ⊎ ((self.new ≡ self.old) × IsNeedless self.old entry.now)) }
+        ensures refused { OnErr result (self.new ≡ self.old) }
+        ensures full { result ≡ Err Stop.Full → MOST_ENTRIES ≤ length self.old }
     {
         if self.is_needless(entry) {
             return Ok(());
@@ -236,15 +272,21 @@ impl Tables {
     }
 
     /// Puts all entries of others.
-    pub fn put_all(&mut self, others: &Tables) -> Result<(), Stop> {
-        for slot in others.slots.as_slice() {
+    pub fn put_all(&mut self, others: &Tables) -> Result<(), Stop>
+        ensures kept { IsPrefixOf self.old self.new }
+        ensures served { OnOk result (All (HasStandIn self.new) others.now) }
+        ensures full { result ≡ Err Stop.Full → MOST_ENTRIES ≤ length self.new }
+    {
+        'slots: for slot in others.slots.as_slice() {
             self.put(&slot.entry)?;
         }
         Ok(())
     }
 
     // Whether an entry that is kept makes this one needless.
-    fn is_needless(&self, new: &EdgeEntry) -> bool {
+    fn is_needless(&self, new: &EdgeEntry) -> bool
+        ensures { IsTrue result → IsNeedless self.now new.now }
+    {
         let mut place = self.heads.newest(bucket(&new.key));
         for _step in 0..MOST_ENTRIES {
             let Some(slot) = self.slots.get(place as usize) else {
@@ -260,7 +302,7 @@ impl Tables {
 
     // Takes those out of their bucket that this one makes needless.
     fn drop_needless(&mut self, new: &EdgeEntry)
-        ensures { length self.new.slots.items ≡ length self.old.slots.items }
+        ensures { self.new ≡ self.old }
     {
         let bucket = bucket(&new.key);
         let mut previous = NOWHERE;
@@ -281,7 +323,7 @@ impl Tables {
 
     // Makes the one at `next` follow the one at `previous`, or the first of the bucket.
     fn link(&mut self, bucket: usize, previous: u32, next: u32)
-        ensures { length self.new.slots.items ≡ length self.old.slots.items }
+        ensures { self.new ≡ self.old }
     {
         match self.slots.get_mut(previous as usize) {
             Some(slot) => slot.before = next,

@@ -1,7 +1,10 @@
 //! Certificates that are found, and checked.
 
-ghost use Rattle.std.specs.Prelude.{◌≡◌, IfOk, IfSome};
-ghost use Rattle.hex_found.specs.Found.{IsFound, claim_for};
+ghost use Rattle.std.specs.Prelude.{◌≡◌, IfOk, IfSome, None, Ok};
+ghost use Rattle.win_cert.specs.Texts.{cert_text};
+ghost use Rattle.win_cert.specs.Writable.{HasBoard};
+ghost use Rattle.win_cert.specs.declared.certs.Cert.{Cert};
+ghost use Rattle.hex_found.specs.Found.{Certifies, IsFound, claim_for};
 
 use super::refusals::Memory;
 use super::text_search::seek;
@@ -10,7 +13,9 @@ use conn_store::Kind;
 use hex_board::Board;
 use hex_cells::Colour;
 use std::alloc::Global;
-use win_cert::{Cert, CertError, LATEST_VERSION, MOST_LINES, Verdict, read};
+use win_cert::{
+    Cert, CertError, LATEST_VERSION, MOST_LINES, Verdict, read, written_text_is_read_back,
+};
 
 /// A certificate of who wins the position, found by entering at most `budget` states. `None` if
 /// that found none, or one that is too long.
@@ -41,10 +46,8 @@ pub(crate) fn claim_for(winner: Colour, mover: Colour) -> Kind
 }
 
 /// The certificate that the text is, if it has the latest version, is of this board, is accepted,
-/// and claims that its player wins with `mover` to place next; `None` if it is none, whatever the
-/// text.
-///
-/// That such a text is answered is only tested: a body that always answers `None` is proved.
+/// and claims that its player wins with `mover` to place next; `None` exactly if it is none,
+/// whatever the text.
 pub fn certified(
     alloc: Global,
     board: &Board,
@@ -52,7 +55,11 @@ pub fn certified(
     text: &[u8],
 ) -> Result<Option<Cert>, Memory>
     ensures found { IfOk result (λ r. IfSome r (IsFound board.now mover)) }
+    ensures read { IfOk result (λ r. IfSome r (λ cert. text.now ≡ cert_text cert)) }
+    ensures none { result ≡ Ok None → (cert : Cert) → HasBoard cert → text.now ≡ cert_text cert
+        → ¬ (Certifies board.now mover cert.player cert) }
 {
+    written_text_is_read_back();
     let cert = match read(alloc, text) {
         Ok(cert) => cert,
         Err(CertError::Memory) => return Err(Memory),

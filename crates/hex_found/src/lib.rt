@@ -21,14 +21,15 @@
 //! report are derived on the board on which its carrier alone is empty.
 //!
 //! **What is proved.** [`find`] and [`certified`] answer certificates that are found
-//! (specs/Found.antt), so that their player wins: by `cert_check`, whatever the search said. That
-//! [`seek`] counts at most the budget of states, all its searches together, and that each call is
-//! safe and ends.
+//! (specs/Found.antt), so that their player wins: by `cert_check`, whatever the search said.
+//! [`certified`] answers the certificate of the text, and `None` exactly if the text is of none
+//! that counts as found. That [`seek`] counts at most the budget of states, all its searches
+//! together, and that each call is safe and ends.
 //!
 //! **What is only tested, or not said.** That something is found, how soon, and by how many lines;
 //! that each state is counted, and that [`find`] hands over its budget and no more; that calls get
-//! their memory. A body of [`find`] or [`certified`] that always answers `None`, or that memory ran
-//! out, is proved, and refused by the tests (board_tests, of_hex_found).
+//! their memory. A body of [`find`] that always answers `None`, or of any call that memory ran out,
+//! is proved, and refused by the tests (board_tests, of_hex_found).
 //!
 //! **Limits.** Those of `edge_tables`, `hex_scout` and `win_cert`; 1,000,000 lines, scopes or needs
 //! while a certificate is made.

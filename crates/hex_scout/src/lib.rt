@@ -17,11 +17,14 @@
 //!
 //! **What is proved.** That each call is safe and ends. That no more states are counted as entered
 //! than the budget has, that it is told to be spent only if as many were counted, and that a search
-//! gets at most one node for each. Of who wins nothing is said: `hex_found` makes certificates of
-//! what was found, and these are checked.
+//! gets at most one node for each. If [`Search::decide`] says who wins, an entry of its tables
+//! shows it (specs/Shown.antt). That the entry is true is not said: `hex_found` makes certificates
+//! of what was found, and these are checked. A new search knows nothing; [`Search::take`] keeps
+//! what was there, and has for each entry of the other search one that stands wherever that does.
 //!
-//! **What is only tested, or not said.** Who wins, and how soon it is found; that each state that
-//! is counted was entered.
+//! **What is only tested, or not said.** That a winner is found, and how soon; that each state that
+//! is counted was entered, since none of what a search keeps is a list of them. Without a promise,
+//! by trial: in which order cells are tried ([`Order`]), and how many are looked at.
 //!
 //! **Limits.** 1,000,000 nodes and the entries of `edge_tables`. A full table ends a search like a
 //! spent budget.

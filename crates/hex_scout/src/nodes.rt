@@ -1,6 +1,6 @@
 //! The nodes of a proof-number search: the states that were entered.
 
-ghost use Rattle.std.specs.Prelude.{◌≡◌, ◌+◌, ◌≤◌, length};
+ghost use Rattle.std.specs.Prelude.{◌≡◌, ◌+◌, ◌≤◌, [], IfErr, IfOk, length};
 
 use edge_tables::{Heads, Stop, bucket_of, mixed};
 use hex_board::Board;
@@ -64,7 +64,10 @@ fn bucket(black: CellSet, white: CellSet) -> usize {
 
 impl Nodes {
     /// No node.
-    pub(crate) fn make(alloc: Global) -> Result<Nodes, Stop> {
+    pub(crate) fn make(alloc: Global) -> Result<Nodes, Stop>
+        ensures none { IfOk result (λ nodes. nodes.list.items ≡ []) }
+        ensures refused { IfErr result (λ stop. stop ≡ Stop.Memory) }
+    {
         let heads = Heads::make(alloc)?;
         Ok(Nodes {
             list: Vec::new(alloc),

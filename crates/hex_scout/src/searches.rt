@@ -1,7 +1,12 @@
 //! Proof-number search without recursion. A round goes from the root down to a state that is new,
 //! enters it, and goes back up.
 
-ghost use Rattle.std.specs.Prelude.{◌≡◌, ◌+◌, ◌≤◌, Bool, None, Ok, Some, length};
+ghost use Rattle.std.specs.Prelude.{◌≡◌, ◌+◌, ◌≤◌, [], All, Bool, IfErr, IfOk, None, Ok, OnOk};
+ghost use Rattle.std.specs.Prelude.{Some, length};
+ghost use Rattle.std.specs.Borrow.{sem};
+ghost use Rattle.edge_tables.specs.Entries.{HasStandIn, IsPrefixOf};
+ghost use Rattle.hex_scout.specs.Lending.{LendsTables};
+ghost use Rattle.hex_scout.specs.Shown.{ShowsOutcome};
 
 use super::distances::add_ways;
 use super::nodes::{Effort, MOST_NODES, NEVER, Nodes};
@@ -45,7 +50,12 @@ pub struct Search {
 
 impl Search {
     /// A search that knows nothing.
-    pub fn make(alloc: Global, order: Order) -> Result<Search, Stop> {
+    pub fn make(alloc: Global, order: Order) -> Result<Search, Stop>
+        ensures no_entry { IfOk result (λ s. s.tables ≡ []) }
+        ensures no_node { IfOk result (λ s. s.nodes.list.items ≡ []) }
+        ensures order { IfOk result (λ s. s.order ≡ order) }
+        ensures refused { IfErr result (λ stop. stop ≡ Stop.Memory) }
+    {
         let tables = Tables::make(alloc)?;
         let nodes = Nodes::make(alloc)?;
         let counter = Counter::make(alloc)?;
@@ -58,28 +68,41 @@ impl Search {
     }
 
     /// The entries that it found.
-    pub fn tables(&self) -> &Tables {
+    pub fn tables(&self) -> &Tables
+        ensures { result.now ≡ self.now.tables }
+    {
         &self.tables
     }
 
     /// The same, to be changed.
-    pub fn tables_mut(&mut self) -> &mut Tables {
+    pub fn tables_mut(&mut self) -> &mut Tables
+        ensures* writes_back { sem 𝓛 (LendsTables self.entry result) }
+        ensures value { result.now ≡ self.entry.now.tables }
+    {
         &mut self.tables
     }
 
     /// Takes what another search found.
-    pub fn take(&mut self, other: &Search) -> Result<(), Stop> {
+    pub fn take(&mut self, other: &Search) -> Result<(), Stop>
+        ensures kept { IsPrefixOf self.old.tables self.new.tables }
+        ensures served { OnOk result (All (HasStandIn self.new.tables) other.now.tables) }
+        ensures nodes { self.new.nodes ≡ self.old.nodes }
+        ensures order { self.new.order ≡ self.old.order }
+    {
         self.tables.put_all(&other.tables)
     }
 
     /// Goes on until it is known who wins, or so many states were entered. It gets at most one node
-    /// for each of them, and that the budget is spent is told only if they are as many.
+    /// for each of them, and that the budget is spent is told only if they are as many. An entry of
+    /// the tables shows who it says wins.
     ///
     /// A body that gives up, or that counts states and enters none, is proved; tests tell what is
     /// found.
     pub fn decide(&mut self, alloc: Global, root: &State, budget: u64) -> Outcome
         ensures within { result.entered ≤ budget }
         ensures spent { result.by_mover ≡ Ok None → result.entered ≡ budget }
+        ensures shown { (by_mover : Bool) → result.by_mover ≡ Ok (Some by_mover)
+            → ShowsOutcome self.new.tables root.now by_mover }
         ensures nodes { length self.new.nodes.list.items
             ≤ length self.old.nodes.list.items + result.entered }
     {
@@ -123,6 +146,8 @@ impl Search {
             ≤ length self.old.nodes.list.items + 1 }
         ensures known { (by_mover : Bool) → result ≡ Ok (Some by_mover)
             → length self.new.nodes.list.items ≡ length self.old.nodes.list.items }
+        ensures shown { (by_mover : Bool) → result ≡ Ok (Some by_mover)
+            → ShowsOutcome self.new.tables root.now by_mover }
     {
         match self.go_down(alloc, root, path)? {
             Way::Known(by_mover) => Ok(Some(by_mover)),
@@ -138,6 +163,8 @@ impl Search {
     // wins. One that meets no new state decides a node, so there are at most as many.
     fn go_down(&mut self, alloc: Global, root: &State, path: &mut Vec<State>) -> Result<Way, Stop>
         ensures count { length self.new.nodes.list.items ≡ length self.old.nodes.list.items }
+        ensures shown { (by_mover : Bool) → result ≡ Ok (Way.Known by_mover)
+            → ShowsOutcome self.new.tables root.now by_mover }
     {
         'rounds: for _round in 0..MOST_NODES {
             if let Some(by_mover) = self.known(root) {
@@ -153,7 +180,10 @@ impl Search {
     }
 
     // Whether the player to move wins, if an entry says so.
-    fn known(&self, state: &State) -> Option<bool> {
+    fn known(&self, state: &State) -> Option<bool>
+        ensures { (by_mover : Bool) → result ≡ Some by_mover
+            → ShowsOutcome self.now.tables state.now by_mover }
+    {
         let empties = state.board.empties();
         if self.tables.has(&state.own_key(Kind::Semi), empties) {
             return Some(true);

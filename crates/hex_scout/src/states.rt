@@ -1,5 +1,9 @@
 //! States of the game.
 
+ghost use Rattle.std.specs.Prelude.{◌≡◌};
+ghost use Rattle.hex_cells.specs.Colours.{other_of};
+ghost use Rattle.hex_scout.specs.Shown.{key_on};
+
 use conn_store::Kind;
 use edge_tables::Key;
 use hex_board::Board;
@@ -26,18 +30,24 @@ impl State {
     }
 
     /// The key of the mover's entries of a kind.
-    pub(crate) fn own_key(&self, kind: Kind) -> Key {
+    pub(crate) fn own_key(&self, kind: Kind) -> Key
+        ensures { result ≡ key_on self.now.board self.now.mover kind }
+    {
         key_on(&self.board, self.mover, kind)
     }
 
     /// The key of the other player's entries of a kind.
-    pub(crate) fn other_key(&self, kind: Kind) -> Key {
+    pub(crate) fn other_key(&self, kind: Kind) -> Key
+        ensures { result ≡ key_on self.now.board (other_of self.now.mover) kind }
+    {
         key_on(&self.board, self.mover.other(), kind)
     }
 }
 
 /// The key of a player's entries of a kind on the board.
-pub(crate) fn key_on(board: &Board, player: Colour, kind: Kind) -> Key {
+pub(crate) fn key_on(board: &Board, player: Colour, kind: Kind) -> Key
+    ensures { result ≡ key_on board.now player kind }
+{
     Key {
         player,
         kind,
