@@ -247,7 +247,8 @@ impl Tables {
         Ok(list)
     }
 
-    /// Keeps an entry, unless one that is kept makes it needless; those that it makes needless go.
+    /// Adds an entry, unless one that is there makes it needless. Those that it makes needless keep
+    /// their places, and are found no more.
     pub fn put(&mut self, entry: &EdgeEntry) -> Result<(), Stop>
         ensures put { OnOk result ((self.new ≡ self.old ++ entry.now ∷ [])
             ⊎ ((self.new ≡ self.old) × IsNeedless self.old entry.now)) }

@@ -31,15 +31,16 @@ use search_team::Gate;
 use std::alloc::Global;
 use std::thread::Threads;
 
-/// Runs the program that the words ask for over the devices, and answers its status.
+/// Runs the program that the arguments ask for over the devices, and answers its status.
 ///
-/// The words are those of the command line after the program's name, and were read before. In mode
-/// `htp` each raw line of the input is answered, by GTP version 2, from an empty board of the size
-/// that the words say. The shelf has the files of `loadsgf`, and the archive takes the turn of each
-/// `genmove`. Modes `check`, `migrate`, `audit` and `solve` take the whole input and give one text
-/// for it. That is the verdict on a certificate, the certificate in its latest version, the verdict
-/// on traces of closed trees, or who wins the position of a record. Modes `sim` and `bench` read
-/// nothing: they search one position, hand the turn to the archive, and give one text that says it.
+/// The arguments are those of the process after the program's name; the line has them, and was read
+/// before. In mode `htp` each raw line of the input is answered, by GTP version 2, from an empty
+/// board of the size that the arguments say. The file store (*shelf*) has the files of `loadsgf`,
+/// and the archive takes the turn of each `genmove`. Modes `check`, `migrate`, `audit` and `solve`
+/// take the whole input and give one text for it. That is the verdict on a certificate, the
+/// certificate in its latest version, the verdict on traces of closed trees, or who wins the
+/// position of a record. Modes `sim` and `bench` read nothing: they search one position, hand the
+/// turn to the archive, and give one text that says it.
 ///
 /// Searches run in threads of the devices' runtime, and their workers pass their gate; no clause
 /// speaks of these.
@@ -48,7 +49,7 @@ use std::thread::Threads;
 /// |---|---|---|
 /// | 0 | what the mode does was done; in `htp` to the input's end, or to an answered `quit` | |
 /// | 1 | the whole input was answered, and it is not accepted; only in modes that take it whole | |
-/// | 2 | exactly if the words are not well formed | `hexd: usage` |
+/// | 2 | exactly if the arguments are not well formed | `hexd: usage` |
 /// | 3 | only if a read failed | `hexd: read fault` |
 /// | 4 | only if a write failed | |
 /// | 5 | memory ran out | `hexd: out of memory` |
@@ -60,7 +61,7 @@ use std::thread::Threads;
 ///
 /// - with 3, the answers to all whole lines taken;
 /// - with 4, a prefix of the answers;
-/// - with 5, the answers to the first lines, which used up all that was used up;
+/// - with 5, the answers to the first lines, which consumed all that was consumed;
 /// - with 6, the answers to the whole lines up to the limit;
 /// - with 7, the answers to all lines before the `genmove` whose turn the archive didn't take.
 ///
@@ -68,8 +69,8 @@ use std::thread::Threads;
 ///
 /// What fails first ends the run: the link's count of read faults rose with 3, its count of write
 /// faults with 4 and the archive's count of faults with 7, and each is as before with every other
-/// status. A fault of the errors changes nothing of the status. Status 5 may come in place of any
-/// other but 2.
+/// status. A fault of the errors changes nothing of the status. With well-formed arguments memory
+/// may run out at any time, and then the status is 5.
 pub fn run<R: Threads + Sync, L: Link, E: Link, F: Shelf, A: Archive, G: Gate + Sync>(
     alloc: Global,
     line: &CommandLine,
@@ -81,7 +82,7 @@ pub fn run<R: Threads + Sync, L: Link, E: Link, F: Shelf, A: Archive, G: Gate + 
     // The link, the shelf and the archive are those that were handed in.
     ensures names { devices.new.names ≡ devices.old.names }
 
-    // The words, as which contracts see the line.
+    // The arguments, as which contracts see the line.
     ensures usage { (result ≡ status_of End.Usage) ↔ AreRefused line.now }
     ensures well_formed { result ≢ status_of End.Usage
         → (options : Options) × WellFormed line.now options }

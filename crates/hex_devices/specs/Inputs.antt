@@ -30,8 +30,8 @@ abbrev pub TookTooMany : ℕ → Told → Told → Type 0
 TookTooMany limit old new =
     (bytes : List ℕ) × (length bytes ≡ limit + 1) × TookBytes bytes old new
 
--- What was taken of an input that was not taken whole: at a read fault or for want of memory at
--- most the limit; the input is too long if one byte more was taken.
+-- What was taken of an input that was not taken whole: at a read fault or out of memory at most
+-- the limit; the input is too long if one byte more was taken.
 abbrev pub TookBefore : InputError → ℕ → Told → Told → Type 0
 TookBefore input.Read = TookAtMost
 TookBefore input.TooLong = TookTooMany

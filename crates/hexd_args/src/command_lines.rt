@@ -32,7 +32,7 @@ impl Model for CommandLine {
 }
 
 impl CommandLine {
-    /// The line of these words.
+    /// The line of these arguments. Memory may run out.
     pub fn read(alloc: Global, words: Vec<Word>) -> Result<CommandLine, Memory>
         ensures { IfOk result (λ line. line ≡ words.items) }
     {
@@ -40,7 +40,7 @@ impl CommandLine {
         Ok(CommandLine { words, options })
     }
 
-    /// What the words ask for; none exactly if they are not well formed.
+    /// What the arguments ask for; none exactly if they are not well formed.
     pub fn options(&self) -> Option<&Options>
         ensures exact { (o : Options) → (option_copied result ≡ Some o) ↔ WellFormed self.now o }
         ensures ranges { IfSome result (λ r. OptionsInRange r.now) }
@@ -49,7 +49,7 @@ impl CommandLine {
     }
 
     /// A copy of the name of the file for traces, which is the value of `--trace`. There is none
-    /// exactly if the words are refused or don't have the option.
+    /// exactly if the arguments are refused or don't have the option. Memory may run out.
     pub fn trace(&self, alloc: Global) -> Result<Option<Word>, Memory>
         ensures well_formed { IfOk result (λ name. (o : Options)
             → WellFormed self.now o → name ≡ o.trace) }

@@ -16,7 +16,7 @@ use std::thread::Threads;
 
 /// Answers what the link has, up to `limit` bytes. All whole lines are answered before the next
 /// read, also before the one byte after the limit is asked for. What fails first ends it: nothing
-/// is read, written or handed over after a fault.
+/// is read, written or submitted after a fault.
 ///
 /// The knobs of the options are in their ranges. It refuses nothing else.
 pub fn converse<L: Link, F: Shelf, A: Archive, R: Threads + Sync, G: Gate + Sync>(

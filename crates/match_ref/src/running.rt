@@ -21,9 +21,9 @@ use search_team::Gate;
 use std::alloc::Global;
 use std::thread::Threads;
 
-/// Plays the match that the words ask for, gives its text to the link, and answers the status.
+/// Plays the match that the arguments ask for, gives its text to the link, and answers the status.
 ///
-/// The words are those of the command line after the program's name. The games are played side by
+/// The words are the arguments of the process after the program's name. The games are played side by
 /// side in threads of `rt`, each after it passed the gate; no clause speaks of these. The text has
 /// a line for each game, in order, with its record after it if records are wanted, and then how
 /// many games each side won. It is given when all games were played. Nothing is read.
@@ -31,7 +31,7 @@ use std::thread::Threads;
 /// | status | comes | line for the errors |
 /// |---|---|---|
 /// | 0 | the match was played, and its text given | |
-/// | 2 | exactly if the words ask for no match; nothing was given | `hexd: usage` |
+/// | 2 | only if the arguments ask for no match; nothing was given | `hexd: usage` |
 /// | 4 | only if a write failed; a prefix of the text was given | |
 /// | 5 | memory ran out; nothing was given | `hexd: out of memory` |
 ///

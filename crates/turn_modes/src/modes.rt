@@ -34,11 +34,11 @@ struct ToldTurn {
     text: Vec<u8>,
 }
 
-/// Searches the position of the mode, and hands in the turn and then its text.
+/// Searches the position of the mode, submits the turn to the archive, and gives its text.
 ///
 /// `Archive` and `Write` come only if the archive or the link counted that fault. It refuses
-/// otherwise only if memory runs out, before the turn is handed in. It reads nothing, and fetches
-/// nothing from the shelf.
+/// otherwise only if memory runs out, before the turn is submitted. It reads nothing, and fetches
+/// nothing from the file store.
 pub fn hand_in<L: Link, F: Shelf, A: Archive, R: Threads + Sync, G: Gate + Sync>(
     alloc: Global,
     mode: TurnMode,
