@@ -18,7 +18,7 @@ abbrev pub failure : Option ℕ → List ℕ → List ℕ
 failure = answer 63
 
 -- what is written where these bytes are an id in its shortest form: the text of that id stands at
--- the end, but for a want of memory
+-- the end, unless memory ran out
 abbrev pub WritesFor : {T E : Type 0} → List ℕ → (Option ℕ → List ℕ) → List ℕ → List ℕ
     → Result T E → Type 0
 WritesFor bytes text old new result =

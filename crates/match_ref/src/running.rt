@@ -23,9 +23,9 @@ use std::thread::Threads;
 
 /// Plays the match that the arguments ask for, gives its text to the link, and answers the status.
 ///
-/// The words are the arguments of the process after the program's name. The games are played side by
-/// side in threads of `rt`, each after it passed the gate; no clause speaks of these. The text has
-/// a line for each game, in order, with its record after it if records are wanted, and then how
+/// The words are the arguments of the process after the program's name. The games are played side
+/// by side in threads of `rt`, each after it passed the gate; no clause speaks of these. The text
+/// has a line for each game, in order, with its record after it if records are wanted, and then how
 /// many games each side won. It is given when all games were played. Nothing is read.
 ///
 /// | status | comes | line for the errors |
