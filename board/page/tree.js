@@ -134,7 +134,8 @@ function sizeOf(text) {
 /** The position that a node of a record leads to; Refused if it has what hexd doesn't read. */
 function placed(tree, parent, {B = [], W = [], ...properties}, left) {
   delete properties[HERE];
-  const colour = B.length ? 'b' : 'w', [value, second] = [...B, ...W], move = value?.toLowerCase(), number = parent.number + 1;
+  const colour = B.length ? 'b' : 'w', [value, second] = [...B, ...W], word = value?.toLowerCase(), number = parent.number + 1;
+  const move = word === 'swap' ? SWAP : word;
   if (second !== undefined) throw new Refused(`node ${number} has two moves`);
   if (SETUP.some(name => name in properties)) {
     throw new Refused(`stones are set or taken away at move ${number}, and hexd takes those of the start alone`);
