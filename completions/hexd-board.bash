@@ -1,4 +1,4 @@
-# Completion of hexd-board's words for bash: each option once, and none behind `--`. A number is the user's own.
+# Completion of hexd-board's words for bash: each option once, and none after `--`. A number is the user's own.
 _hexd_board() {
     local options=' --playouts --weight --workers --open --port --listen --program --help '
     local at word name=${COMP_WORDS[COMP_CWORD-1]}

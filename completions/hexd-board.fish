@@ -1,4 +1,4 @@
-# Completion of hexd-board's words for fish: each option. A number is the user's own; behind `--` stand options of hexd.
+# Completion of hexd-board's words for fish: each option. A number is the user's own; after `--` stand options of hexd.
 complete -c hexd-board -f
 complete -c hexd-board -l playouts -x -d 'Playouts of a search: 1 to 1,000,000'
 complete -c hexd-board -l weight -x -d 'How much exploration weighs in a score: 0 to 1,024'

@@ -21,7 +21,7 @@ use search_team::Gate;
 use std::alloc::Global;
 use std::thread::Threads;
 
-/// Does over the devices what the words ask for, in the mode that they say.
+/// Does over the devices what the arguments ask for, in the mode that they name.
 pub fn serve<L: Link, F: Shelf, A: Archive, R: Threads + Sync, G: Gate + Sync>(
     alloc: Global,
     line: &CommandLine,

@@ -67,7 +67,7 @@ use std::thread::Threads;
 ///
 /// Each other mode had then given a prefix of its text with 4, and nothing with 3, 5, 6 and 7.
 ///
-/// What fails first ends the run: the link's count of read faults rose with 3, its count of write
+/// What fails first ends the run: the stream's count of read faults rose with 3, its count of write
 /// faults with 4 and the archive's count of faults with 7, and each is as before with every other
 /// status. A fault of the errors changes nothing of the status. With well-formed arguments memory
 /// may run out at any time, and then the status is 5.
@@ -79,7 +79,7 @@ pub fn run<R: Threads + Sync, L: Link, E: Link, F: Shelf, A: Archive, G: Gate + 
 ) -> u8
     ensures status { (end : End) × (result ≡ status_of end) }
 
-    // The link, the shelf and the archive are those that were handed in.
+    // The stream, the file store and the archive are those that were handed in.
     ensures names { devices.new.names ≡ devices.old.names }
 
     // The arguments, as which contracts see the line.
@@ -88,11 +88,11 @@ pub fn run<R: Threads + Sync, L: Link, E: Link, F: Shelf, A: Archive, G: Gate + 
         → (options : Options) × WellFormed line.now options }
     ensures untouched { AreRefused line.now → devices.new ≡ devices.old }
 
-    // Mode htp: what was taken and given, and when, if the link tells it, and what was used up
-    // from the shelf and for the archive. Then, if the run is done, each generated move. At every
-    // status, that each turn used up is good, and what it says of threats is true. And, if the run
-    // is done, that one worker who looks for no connections gives what the words, the input and the
-    // shelf determine.
+    // Mode htp: what was taken and given, and when, if the stream is observable, and what was
+    // consumed from the file store and for the archive. Then, if the run is done, each generated
+    // move. At every status, that each turn consumed is good, and what it says of threats is true.
+    // And, if the run is done, that one worker who looks for no connections gives what the
+    // arguments, the input and the files determine.
     ensures conversed { InMode Htp HasPlayed (seen line.now result devices.old devices.new) }
     ensures headline { InMode Htp HasHeadline (seen line.now result devices.old devices.new) }
     ensures good_turns { InMode Htp HasGoodTurns (seen line.now result devices.old devices.new) }

@@ -35,7 +35,7 @@ pub trait InputReader {
 /// Takes all that is to come, if it has at most `limit` bytes, and gives the text that answers it.
 /// It says whether the input was accepted. The reader answers so many bytes.
 ///
-/// Of the input `Read` comes only if the link counted a fault of a read, and `TooLong` exactly if
+/// Of the input `Read` comes only if the stream counted a fault of a read, and `TooLong` exactly if
 /// `limit + 1` bytes were taken. `Write` comes only if the link counted a fault of a write. It
 /// refuses otherwise only if memory runs out.
 pub fn answer_input<L: Link, R: InputReader>(

@@ -12,7 +12,7 @@ use hex_plan::{Archive, Turn};
 /// Hands the turn to the archive, and then gives the text. It reads nothing, and the text is given
 /// only if the archive took the turn.
 ///
-/// `Archive` and `Write` come only if the archive or the link counted that fault. It refuses
+/// `Archive` and `Write` come only if the archive or the stream counted that fault. It refuses
 /// nothing else, and takes no memory.
 pub fn hand_over<L: Link, A: Archive>(
     link: &mut L,

@@ -27,7 +27,7 @@ pub fn read_some<L: Link>(link: &mut L, buffer: &mut [u8], room: usize) -> Resul
 /// Takes all that is to come, if it has at most `limit` bytes. One byte more ends it, as does the
 /// first fault; nothing is read after either.
 ///
-/// `Read` comes only if the link counted a fault, `TooLong` exactly if `limit + 1` bytes were
+/// `Read` comes only if the stream counted a fault, `TooLong` exactly if `limit + 1` bytes were
 /// taken. It refuses otherwise only if memory runs out.
 pub fn take_all<L: Link>(alloc: Global, link: &mut L, limit: usize) -> Result<Vec<u8>, InputError>
     ensures takes { TakesAll (L.told link.old) (L.told link.new) limit result }

@@ -52,6 +52,7 @@
 #![tactic(auto)]
 
 mod answers;
+mod arguments;
 mod devices;
 mod ends;
 mod errors;
@@ -62,6 +63,7 @@ mod inputs;
 mod stops;
 
 pub use answers::{InputAnswer, InputReader, answer_input};
+pub use arguments::arguments_of;
 pub use devices::Devices;
 pub use ends::End;
 pub use errors::{AnswerError, InputError, OutputError};

@@ -19,12 +19,7 @@ use Rattle.hex_engine.specs.Replies as reply
 use Rattle.hex_engine.specs.declared.answers.Fail.{Fail}
 use Rattle.hex_engine.specs.declared.answers.Fail.TheVariants.{Syntax, NoSearch, NoCert}
 use Rattle.hex_engine.specs.declared.commands.Quiet.{Quiet}
-use Rattle.hex_engine.specs.declared.commands.Quiet.TheVariants.{BoardSize, ClearBoard}
-use Rattle.hex_engine.specs.declared.commands.Quiet.TheVariants.{KnownCommand, ListCommands}
-use Rattle.hex_engine.specs.declared.commands.Quiet.TheVariants.{MustPlay, Name, Play, PrintSgf}
-use Rattle.hex_engine.specs.declared.commands.Quiet.TheVariants.{ProtocolVersion, Quit}
-use Rattle.hex_engine.specs.declared.commands.Quiet.TheVariants.{SearchReport, ShowBoard, Undo}
-use Rattle.hex_engine.specs.declared.commands.Quiet.TheVariants.{Version, WinCert, Winner}
+use Rattle.hex_engine.specs.declared.commands.Quiet.TheVariants as quiet
 
 -- a text if there is one, and else this failure
 abbrev pub text_or : Fail → Option (List ℕ) → Reply
@@ -42,27 +37,27 @@ knowing (word ∷ other ∷ words) = Failed Syntax
 -- ask for the last turn answer its report, what `mustplay` says of it, and its certificate, if
 -- there is one.
 abbrev pub obeyed_quietly : EngineState → Quiet → List (List ℕ) → QuietReaction
-obeyed_quietly engine BoardSize args = resized engine.game (sizes_of args)
-obeyed_quietly engine ClearBoard args = emptied (board_of engine.game).size
-obeyed_quietly engine KnownCommand args = reply_alone engine.game (knowing args)
-obeyed_quietly engine ListCommands args = reply_alone engine.game (Done all_names)
-obeyed_quietly engine MustPlay args = reply_alone engine.game
+obeyed_quietly engine quiet.BoardSize args = resized engine.game (sizes_of args)
+obeyed_quietly engine quiet.ClearBoard args = emptied (board_of engine.game).size
+obeyed_quietly engine quiet.KnownCommand args = reply_alone engine.game (knowing args)
+obeyed_quietly engine quiet.ListCommands args = reply_alone engine.game (Done all_names)
+obeyed_quietly engine quiet.MustPlay args = reply_alone engine.game
     (text_or NoSearch (option_map (λ (texts : TurnTextsData). texts.mustplay) engine.last))
-obeyed_quietly engine Name args = reply_alone engine.game (Done (codes "hexd"))
-obeyed_quietly engine Play args = playing engine.game args
-obeyed_quietly engine PrintSgf args =
+obeyed_quietly engine quiet.Name args = reply_alone engine.game (Done (codes "hexd"))
+obeyed_quietly engine quiet.Play args = playing engine.game args
+obeyed_quietly engine quiet.PrintSgf args =
     reply_alone engine.game (Done (trees_print (record_of engine.game)))
-obeyed_quietly engine ProtocolVersion args = reply_alone engine.game (Done (codes "2"))
-obeyed_quietly engine Quit args = reply_alone engine.game reply.Quit
-obeyed_quietly engine SearchReport args = reply_alone engine.game
+obeyed_quietly engine quiet.ProtocolVersion args = reply_alone engine.game (Done (codes "2"))
+obeyed_quietly engine quiet.Quit args = reply_alone engine.game reply.Quit
+obeyed_quietly engine quiet.SearchReport args = reply_alone engine.game
     (text_or NoSearch (option_and_then (λ (texts : TurnTextsData). texts.report) engine.last))
-obeyed_quietly engine ShowBoard args =
+obeyed_quietly engine quiet.ShowBoard args =
     reply_alone engine.game (Done (picture (board_of engine.game)))
-obeyed_quietly engine Undo args = undone engine.game engine.game.steps
-obeyed_quietly engine Version args = reply_alone engine.game (Done (codes "1.0"))
-obeyed_quietly engine WinCert args = reply_alone engine.game
+obeyed_quietly engine quiet.Undo args = undone engine.game engine.game.steps
+obeyed_quietly engine quiet.Version args = reply_alone engine.game (Done (codes "1.0"))
+obeyed_quietly engine quiet.WinCert args = reply_alone engine.game
     (text_or NoCert (option_and_then (λ (texts : TurnTextsData). texts.wincert) engine.last))
-obeyed_quietly engine Winner args = reply_alone engine.game
+obeyed_quietly engine quiet.Winner args = reply_alone engine.game
     (Done (option_map_or colour_word (winner_of (board_of engine.game)) (codes "none")))
 
 -- what a command with these arguments does that uses nothing up: one that takes none refuses some

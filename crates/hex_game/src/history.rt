@@ -133,7 +133,7 @@ impl Game {
         &self.steps
     }
 
-    /// A law of each game: each of its steps was legal where it was taken, and there are at most
+    /// A law of each game: each of its steps was legal when it was taken, and there are at most
     /// [`MOST_STEPS`]. It does nothing.
     pub fn steps_are_legal(&self)
         ensures legal { AreLegal self.now.start self.now.steps }

@@ -12,7 +12,7 @@
 //! **What is proved.** The board of a game is the replay of its start board and steps, at every
 //! moment. `play` accepts exactly the legal steps and tells why it refuses another; after a refusal
 //! the game is as before. `undo` after an accepted `play` gives the game before. Each step of a
-//! game was legal where it was taken, and there are at most 122. Only `make` takes memory, and a
+//! game was legal when it was taken, and there are at most 122. Only `make` takes memory, and a
 //! game never needs more room than that.
 //!
 //! **What is only tested, or not said.** The derived texts of errors.

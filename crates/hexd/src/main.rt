@@ -1,25 +1,25 @@
 //! The program `hexd`: [`hex_cli::run`] over the standard streams of the process.
 //!
-//! **What it is.** The words of the command line, standard input and output as the link, standard
+//! **What it is.** The arguments of the process, standard input and output as the link, standard
 //! error for the one line of a failure, the files of the system as the shelf, and the status as the
 //! exit code. The archive writes the traces of its turns to the file that `--trace` names, or drops
 //! its turns if there is no such option.
 //!
 //! **A caller** is the shell: `printf 'boardsize 3\nshowboard\n' | hexd htp`.
 //!
-//! **What is proved.** That it is safe and ends whenever its streams do. What the words ask for,
-//! and the name of the file, is proved of [`hexd_args::CommandLine`], what is answered of
+//! **What is proved.** That it is safe and ends whenever its streams do. What its arguments ask
+//! for, and the name of the file, is proved of [`hexd_args::CommandLine`], what is answered of
 //! [`hex_cli::run`], and what is written to the file of [`trace_audit::TraceArchive`].
 //!
 //! **What is only tested, or not said.** What the terminal or another program gave or got, and what
 //! a file holds.
 //!
-//! **Limits.** An argument that is no text is a wrong word.
+//! **Limits.** An argument that is no text ends it with status 2.
 #![tactic(auto)]
 
 use hex_cli::run;
-use hex_devices::{Devices, End, Stop};
-use hex_io::{DirShelf, ErrLink, FileLink, StdLink, Word, report};
+use hex_devices::{Devices, End, Stop, arguments_of};
+use hex_io::{DirShelf, ErrLink, FileLink, StdLink, report};
 use hex_plan::{Archive, NoArchive};
 use hexd_args::CommandLine;
 use search_team::OpenGate;
@@ -39,9 +39,9 @@ fn main(rt: HostRuntime) -> ExitCode {
     ExitCode::from(status)
 }
 
-/// The status of a run over the archive that its words ask for, or how the program ends that can't
-/// begin one. Searches run in threads of `threads`, which is the runtime again: it starts threads
-/// only for who takes it as such.
+/// The status of a run over the archive that its arguments ask for, or how the program ends that
+/// can't begin one. Searches run in threads of `threads`, which is the runtime again: it starts
+/// threads only for who takes it as such.
 fn status_of<R: Threads + Sync>(
     rt: &HostRuntime,
     threads: &R,
@@ -91,18 +91,10 @@ fn archive_of<'a>(
     }
 }
 
-/// The line of the words after the program's name, or how a run ends that can't have it.
+/// The command line of the process, or how a run ends that can't have it.
 fn line_of(rt: &HostRuntime) -> Result<CommandLine, End> {
-    match CommandLine::read(rt.alloc(), words_of(rt)?) {
+    match CommandLine::read(rt.alloc(), arguments_of(rt)?) {
         Ok(line) => Ok(line),
-        Err(_) => Err(End::Stopped(Stop::Memory)),
-    }
-}
-
-fn words_of(rt: &HostRuntime) -> Result<Vec<Word>, End> {
-    match Word::all(rt) {
-        Ok(Some(words)) => Ok(words),
-        Ok(None) => Err(End::Usage),
         Err(_) => Err(End::Stopped(Stop::Memory)),
     }
 }

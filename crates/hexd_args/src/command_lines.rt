@@ -12,8 +12,8 @@ use hex_io::Word;
 use std::alloc::Global;
 use std::marker::Model;
 
-/// The words of a command line, with the options that they ask for. Contracts see it as the list of
-/// these words.
+/// The arguments of a command line, with the options that they ask for. Contracts see it as the
+/// list of these arguments.
 #[derive(Debug, Drop)]
 pub struct CommandLine {
     words: Vec<Word>,

@@ -10,8 +10,7 @@ use crate::table::{
     BUDGET, EXPAND, HSEARCH, PLAYOUTS, SEED, SIZE, STEPS, TRACE, WEIGHT, WORDS, WORKERS,
 };
 
-/// A law, with nothing to run: each option has this name, this value if it is not said, and this
-/// range.
+/// A law, with nothing to run: each option has this name, this default, and this range.
 pub fn options_are_those_of_the_manual()
     ensures size { (SIZE.0.now ≡ codes "size") × (SIZE.1.now ≡ codes "11") }
     ensures size_range { (SIZE.2 ≡ 1) × (SIZE.3 ≡ 11) }

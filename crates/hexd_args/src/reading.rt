@@ -20,7 +20,7 @@ use option_words::{find, found_long_number, found_number, switch};
 use std::alloc::Global;
 use tree_words::Knobs;
 
-/// The options that the words ask for; none exactly if the words are not well formed.
+/// The options that the arguments ask for; none exactly if these are not well formed.
 pub fn read_words(alloc: Global, words: &[Word]) -> Result<Option<Options>, Memory>
     ensures exact { IfOk result (λ r. (o : Options) → (r ≡ Some o) ↔ WellFormed words.now o) }
     ensures ranges { IfOk result (λ r. IfSome r OptionsInRange) }

@@ -28,8 +28,7 @@ pub const EXPAND: NumberOption = ("expand", "8", 1, MOST_EXPAND);
 /// `--weight`: how much exploration weighs in a score, in 256th parts.
 pub const WEIGHT: NumberOption = ("weight", "180", 0, MOST_WEIGHT);
 
-/// `--hsearch`: whether connections are searched for, `on` or `off`; what stands for it if it is
-/// not said.
+/// `--hsearch`: whether connections are searched for, `on` or `off`; and its default.
 pub const HSEARCH: (&'static str, &'static str) = ("hsearch", "on");
 
 /// `--steps`: how many steps the schedule of a simulation has.
@@ -38,5 +37,5 @@ pub const STEPS: NumberOption = ("steps", "10000", 0, 1_000_000);
 /// `--budget`: how many positions the solver may enter.
 pub const BUDGET: LongNumberOption = ("budget", "1000000", 1, u64::MAX);
 
-/// `--trace`: the name of the file for traces. If it is not said there is none.
+/// `--trace`: the name of the file for traces. By default there is none.
 pub const TRACE: &str = "trace";

@@ -1,6 +1,6 @@
 //! The program `hexmatch`: [`match_ref::run_match`] over the standard streams of the process.
 //!
-//! **What it is.** The words of the command line, standard output for the text, standard error for
+//! **What it is.** The arguments of the process, standard output for the text, standard error for
 //! the one line of a failure, and the status as the exit code. Nothing is read.
 //!
 //! **A caller** is the shell: `hexmatch --size 7 --games 20 --playouts-b 4000`.
@@ -10,10 +10,10 @@
 //!
 //! **What is only tested, or not said.** What the terminal or another program got.
 //!
-//! **Limits.** An argument that is no text is a wrong word.
+//! **Limits.** An argument that is no text ends it with status 2.
 #![tactic(auto)]
 
-use hex_devices::{End, Stop};
+use hex_devices::arguments_of;
 use hex_io::{ErrLink, StdLink, Word, report};
 use match_ref::run_match;
 use search_team::OpenGate;
@@ -22,7 +22,7 @@ use std::thread::Threads;
 
 fn main(rt: HostRuntime) -> ExitCode {
     let mut errors = ErrLink::new(&rt);
-    let status = match words_of(&rt) {
+    let status = match arguments_of(&rt) {
         Ok(words) => run_with(&rt, &rt, &words, &mut errors),
         Err(end) => {
             report(&mut errors, end.line());
@@ -42,13 +42,4 @@ fn run_with<R: Threads + Sync>(
 ) -> u8 {
     let mut link = StdLink::new(rt);
     run_match(threads, rt.alloc(), words, &mut link, errors, &OpenGate)
-}
-
-/// The words after the program's name, or how a run ends that can't have them.
-fn words_of(rt: &HostRuntime) -> Result<Vec<Word>, End> {
-    match Word::all(rt) {
-        Ok(Some(words)) => Ok(words),
-        Ok(None) => Err(End::Usage),
-        Err(_) => Err(End::Stopped(Stop::Memory)),
-    }
 }

@@ -23,7 +23,7 @@
 //! and is as before with every other outcome. More at the end of what a talk has to use up changes
 //! nothing of it ([`more_left_is_not_used`]). With one worker it is determined
 //! ([`one_worker_is_determined`], [`one_worker_and_one_shelf_determine`]). The move of a good turn
-//! is legal where it is played ([`searched_moves_are_legal`]).
+//! is legal when it is played ([`searched_moves_are_legal`]).
 //!
 //! **What is only tested, or not said.** That memory suffices: it may always stop since memory ran
 //! out, which no clause ties to a refused growth. That after a fault nothing is read or written.

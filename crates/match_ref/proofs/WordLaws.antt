@@ -51,7 +51,18 @@ found words m w f = (
 
 -- ---- ranges
 
-side_in_range : (value : TextBytes → Option TextBytes) (p n e k : TextBytes) (s : Side)
+side_in_range : (value : TextBytes → Option TextBytes) (is_b : Bool) (s : Side)
+    → IsSaidSide value is_b s → IsSide s
+side_in_range value is_b s h seed below = record {
+  workers = (omega arith, omega arith);
+  playouts = number_in_range _ _ _ _ h.playouts_is;
+  seed = below;
+  words = number_in_range _ _ _ _ h.words_is;
+  expand = number_in_range _ _ _ _ h.expand_is;
+  weight = (number_in_range _ _ _ _ h.weight_is).1;
+}
+
+in_range : (value : TextBytes → Option TextBytes) (p n e k : TextBytes) (s : Side)
     → IsSaidSide value p n e k s → IsSide s
 side_in_range value p n e k s h seed below = record {
   workers = (omega arith, omega arith);
@@ -67,8 +78,8 @@ in_range : (value : TextBytes → Option TextBytes) (w : MatchWords) → AreMatc
 in_range value w h = record {
   games = number_in_range _ _ _ (value GAMES.0.now) h.games;
   threads = number_in_range _ _ _ (value THREADS.0.now) h.threads;
-  side_a = side_in_range _ _ _ _ _ w.setup.a h.a;
-  side_b = side_in_range _ _ _ _ _ w.setup.b h.b;
+  side_a = side_in_range _ _ w.setup.a h.a;
+  side_b = side_in_range _ _ w.setup.b h.b;
 }
 
 pub ranges_from : (value : TextBytes → Option TextBytes) (r : Option MatchWords)

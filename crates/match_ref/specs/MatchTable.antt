@@ -1,7 +1,7 @@
 -- The form of hexmatch's words: its options, and no positional word that has to be there.
 use Rattle.std.specs.Prelude.{false, [], ◌∷◌, ◌++◌}
-use Rattle.clap.specs.Words.{App, with_rule}
-use Rattle.option_words.specs.Command.{plain_app, with_options, word_rule}
+use Rattle.clap.specs.Words.{App}
+use Rattle.option_words.specs.Command.{app_of_form}
 use Rattle.option_words.specs.Grammar.{Form, OptionTable}
 use Rattle.option_words.specs.Values.{TextBytes}
 use Rattle.match_ref.specs.declared.table.TheConstants.{SIZE, GAMES, THREADS, SEED, RECORDS}
@@ -31,5 +31,4 @@ match_form = record { required = false; options = match_table ++ side_table }
 
 -- the command, as clap is given it
 unfoldable pub match_app : App
-match_app =
-    with_options (with_options (with_rule plain_app (word_rule false)) match_table) side_table
+match_app = app_of_form match_form

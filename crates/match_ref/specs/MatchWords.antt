@@ -1,5 +1,5 @@
 -- What the words of hexmatch ask for.
-use Rattle.std.specs.Prelude.{◌≡◌, List, Option, Some, None}
+use Rattle.std.specs.Prelude.{◌≡◌, Bool, false, true, List, Option, Some, None, if◌then◌else◌}
 use Rattle.option_words.specs.Grammar.{Saying, word_name}
 use Rattle.option_words.specs.Lines.{IsLine, value_in}
 use Rattle.option_words.specs.Values.{IsNumberFrom, TextBytes, switch_word}
@@ -9,13 +9,20 @@ use Rattle.match_ref.specs.declared.table.TheConstants.{SIZE, GAMES, THREADS, SE
 use Rattle.match_ref.specs.declared.table.TheConstants.{PLAYOUTS, WORDS, EXPAND, WEIGHT}
 use Rattle.match_ref.specs.declared.words.MatchWords.{MatchWords}
 
--- A side plays with what the values of these four names say.
-pub record IsSaidSide (value : TextBytes → Option TextBytes)
-    (playouts words expand weight : TextBytes) (s : Side) : Type 0 where
-  pub playouts_is : IsNumberFrom PLAYOUTS.3 PLAYOUTS.4 (value playouts) s.playouts
-  pub words_is : IsNumberFrom WORDS.3 WORDS.4 (value words) s.words
-  pub expand_is : IsNumberFrom EXPAND.3 EXPAND.4 (value expand) s.expand
-  pub weight_is : IsNumberFrom WEIGHT.3 WEIGHT.4 (value weight) s.weight
+-- the name that an option of the sides has for side a, or for side b
+abbrev pub name_for : (is_b : Bool) (a b : TextBytes) → TextBytes
+name_for is_b a b = if is_b then b else a
+
+-- Side a, or side b, plays with what these values of its names say.
+pub record IsSaidSide (value : TextBytes → Option TextBytes) (is_b : Bool) (s : Side) : Type 0 where
+  pub playouts_is : IsNumberFrom PLAYOUTS.3 PLAYOUTS.4
+      (value (name_for is_b PLAYOUTS.0.now PLAYOUTS.1.now)) s.playouts
+  pub words_is : IsNumberFrom WORDS.3 WORDS.4
+      (value (name_for is_b WORDS.0.now WORDS.1.now)) s.words
+  pub expand_is : IsNumberFrom EXPAND.3 EXPAND.4
+      (value (name_for is_b EXPAND.0.now EXPAND.1.now)) s.expand
+  pub weight_is : IsNumberFrom WEIGHT.3 WEIGHT.4
+      (value (name_for is_b WEIGHT.0.now WEIGHT.1.now)) s.weight
 
 -- The match is what these values of the names say, and no positional word is said.
 pub record AreMatchWords (value : TextBytes → Option TextBytes) (w : MatchWords) : Type 0 where
@@ -24,8 +31,8 @@ pub record AreMatchWords (value : TextBytes → Option TextBytes) (w : MatchWord
   pub games : IsNumberFrom GAMES.2 GAMES.3 (value GAMES.0.now) w.setup.games
   pub threads : IsNumberFrom THREADS.2 THREADS.3 (value THREADS.0.now) w.setup.threads
   pub seed : IsNumberFrom SEED.2 SEED.3 (value SEED.0.now) w.setup.seed
-  pub a : IsSaidSide value PLAYOUTS.0.now WORDS.0.now EXPAND.0.now WEIGHT.0.now w.setup.a
-  pub b : IsSaidSide value PLAYOUTS.1.now WORDS.1.now EXPAND.1.now WEIGHT.1.now w.setup.b
+  pub a : IsSaidSide value false w.setup.a
+  pub b : IsSaidSide value true w.setup.b
   pub records : value RECORDS.0.now ≡ Some (switch_word w.records)
 
 -- The words are a line of hexmatch's form, and with the defaults for what it does not say, its

@@ -1,18 +1,20 @@
 //! What the words of a command line ask for: a match, and whether its records are wanted.
 
-ghost use Rattle.std.specs.Prelude.{◌≡◌, ◌↔◌, IfOk, IfSome, Some, option_map};
+ghost use Rattle.std.specs.Prelude.{◌≡◌, ℕ, ◌↔◌, IfOk, IfSome, Some, option_map};
 ghost use Rattle.clap.specs.Words.{first_value, found_of};
 ghost use Rattle.option_words.specs.Values.{IsNumberFrom};
 ghost use Rattle.hex_cells.specs.declared.board_size.Size.{Size};
 ghost use Rattle.match_ref.specs.Matches.{IsMatch};
-ghost use Rattle.match_ref.specs.MatchWords.{AreMatchWords, IsSaidSide, AskFor};
+ghost use Rattle.match_ref.specs.MatchWords.{AreMatchWords, IsSaidSide, AskFor, name_for};
 ghost use Rattle.match_ref.specs.declared.settings.Side.{Side};
 ghost use Rattle.match_ref.specs.declared.words.MatchWords.{MatchWords};
 
 use super::command::command;
 use super::refusals::Memory;
 use super::settings::{Match, Side};
-use super::table::{EXPAND, GAMES, PLAYOUTS, RECORDS, SEED, SIZE, THREADS, WEIGHT, WORDS};
+use super::table::{
+    EXPAND, GAMES, PLAYOUTS, RECORDS, SEED, SIZE, SideNumber, THREADS, WEIGHT, WORDS,
+};
 use clap::ArgMatches;
 use hex_cells::Size;
 use hex_io::Word;
@@ -56,8 +58,8 @@ fn said_match(found: &ArgMatches<'_>) -> Option<MatchWords>
             games: found_number(found, GAMES)?,
             threads: found_number(found, THREADS)?,
             seed: found_long_number(found, SEED)?,
-            a: side(found, PLAYOUTS.0, WORDS.0, EXPAND.0, WEIGHT.0)?,
-            b: side(found, PLAYOUTS.1, WORDS.1, EXPAND.1, WEIGHT.1)?,
+            a: side(found, false)?,
+            b: side(found, true)?,
         },
         records: switch(found.get_str(RECORDS.0))?,
     })
@@ -70,21 +72,25 @@ fn board_size(text: Option<&str>) -> Option<Size>
     Size::of(small_number(text, SIZE.2, SIZE.3)?)
 }
 
-// The side whose options have these names.
-fn side(
-    found: &ArgMatches<'_>,
-    playouts: &str,
-    words: &str,
-    expand: &str,
-    weight: &str,
-) -> Option<Side>
-    ensures { (s : Side) → (result ≡ Some s) ↔ IsSaidSide (first_value (found_of found.now))
-        playouts.now words.now expand.now weight.now s }
+// What is said of side a, or of side b.
+fn side(found: &ArgMatches<'_>, is_b: bool) -> Option<Side>
+    ensures { (s : Side)
+        → (result ≡ Some s) ↔ IsSaidSide (first_value (found_of found.now)) is_b s }
 {
     Some(Side {
-        playouts: small_number(found.get_str(playouts), PLAYOUTS.3, PLAYOUTS.4)?,
-        words: small_number(found.get_str(words), WORDS.3, WORDS.4)?,
-        expand: small_number(found.get_str(expand), EXPAND.3, EXPAND.4)?,
-        weight: small_number(found.get_str(weight), WEIGHT.3, WEIGHT.4)?,
+        playouts: side_number(found, is_b, PLAYOUTS)?,
+        words: side_number(found, is_b, WORDS)?,
+        expand: side_number(found, is_b, EXPAND)?,
+        weight: side_number(found, is_b, WEIGHT)?,
     })
+}
+
+// The number that is said of this option for side a, or for side b.
+fn side_number(found: &ArgMatches<'_>, is_b: bool, option: SideNumber) -> Option<u32>
+    ensures { (n : ℕ) → (result ≡ Some n)
+        ↔ IsNumberFrom option.entry.3 option.entry.4 (first_value (found_of found.now)
+        (name_for is_b option.entry.0.now option.entry.1.now)) n }
+{
+    let name = if is_b { option.1 } else { option.0 };
+    small_number(found.get_str(name), option.3, option.4)
 }

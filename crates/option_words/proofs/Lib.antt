@@ -18,7 +18,6 @@
 -- Laws for the layers above.
 pub mod NumberLemmas
 pub mod ValueLemmas
-pub mod CommandLemmas
 pub mod Unsaid
 -- Steps of this crate's own proofs.
 mod TextLemmas

@@ -1,6 +1,9 @@
 -- The command, as clap reads it: one positional argument, and options with a value each.
-use Rattle.std.specs.Prelude.{◌≡◌, Bool, true, not, List, [], ◌∷◌, Some, codes, map, false}
+use Rattle.std.specs.Prelude.{◌≡◌, Bool, true, not, List, [], ◌∷◌, Option, Some, codes, map}
+use Rattle.std.specs.Prelude.{false, option_map}
+use Rattle.std.specs.Borrow.{Bor}
 use Rattle.std.specs.List.{list_all}
+use Rattle.std.specs.Option.{option_to_list}
 use Rattle.std.specs.Str.{bytes_eq}
 use Rattle.clap.specs.Faults.{is_simple_and_free}
 use Rattle.clap.specs.Lexer.{has_byte}
@@ -28,6 +31,7 @@ plain_app = on_top (λ s. record s {
   disable_version_flag = true;
 }) (new_app (codes "words"))
 
+-- the command with these options, one after another
 abbrev pub with_options : App → OptionTable → App
 with_options a [] = a
 with_options a (o ∷ os) = with_options (with_rule a (option_rule o)) os
@@ -35,6 +39,14 @@ with_options a (o ∷ os) = with_options (with_rule a (option_rule o)) os
 -- the command of a form
 abbrev pub app_of_form : Form → App
 app_of_form form = with_options (with_rule plain_app (word_rule form.required)) form.options
+
+-- an option of a command, as a form has it
+abbrev pub option_of : Bor TextBytes × Option (Bor TextBytes) → TextBytes × List TextBytes
+option_of o = (o.0.now, option_to_list (option_map (λ (t : Bor TextBytes). t.now) o.1))
+
+-- the form with these options of a command
+abbrev pub form_of : Bool → List (Bor TextBytes × Option (Bor TextBytes)) → Form
+form_of required options = record { required = required; options = map option_of options }
 
 -- ---- the same, as clap builds it
 

@@ -50,7 +50,3 @@ FindsIn form words (Some m) = FindsLine form words m
 -- that is so of each form that the command reads
 abbrev pub FindsByForm : App → List TextBytes → Option ArgMatches → Type 0
 FindsByForm app words found = (form : Form) → ReadsForm app form → FindsIn form words found
-
--- a command with one more option, which has a default
-abbrev pub with_default : App → TextBytes → TextBytes → App
-with_default app name default = with_rule app (option_rule (name, default ∷ []))

@@ -7,14 +7,13 @@ ghost use Rattle.option_words.specs.Values.{IsNumberFrom};
 use crate::numbers::{number, small_number};
 use clap::ArgMatches;
 
-/// An option that is a number: its name, what stands for it if it is not said, and its least and
-/// its greatest number.
+/// An option that is a number: its name, its default, and its least and its greatest number.
 pub type NumberOption = (&'static str, &'static str, u32, u32);
 
 /// The same of a number of 64 bits.
 pub type LongNumberOption = (&'static str, &'static str, u64, u64);
 
-/// The number that was found for this option: what the words say, or the default. There is none if
+/// The number that was found for this option: its argument, or the default. There is none if
 /// it is no number as [`small_number`] reads it, or out of the option's range.
 pub fn found_number(found: &ArgMatches<'_>, option: NumberOption) -> Option<u32>
     ensures { (n : ℕ) → (result ≡ Some n)

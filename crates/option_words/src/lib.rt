@@ -10,8 +10,7 @@
 //! switch:
 //!
 //! ```text
-//! let command = plain_command(alloc, true)?;
-//! let command = with_option(alloc, command, "size", "11")?;
+//! let command = command_with(alloc, true, &[("size", Some("11"))])?;
 //! let Some(found) = find(command, &words)? else {
 //!     return usage();
 //! };
@@ -49,7 +48,7 @@ mod found_numbers;
 mod numbers;
 mod refusals;
 
-pub use command::{plain_command, with_bare_option, with_option};
+pub use command::{CommandOption, command_with};
 pub use finding::{clap_reads_lines, find};
 pub use found_numbers::{LongNumberOption, NumberOption, found_long_number, found_number};
 pub use numbers::{small_number, switch};

@@ -3,7 +3,7 @@
 use hex_cells::Size;
 use tree_words::Knobs;
 
-/// What the modes sim and bench are told.
+/// What the modes sim and bench are asked for.
 #[derive(Clone, Copy, Debug, PartialEq, Eq)]
 pub struct ModeOptions {
     /// The size of the board.

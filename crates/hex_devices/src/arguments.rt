@@ -1,0 +1,16 @@
+//! The arguments of a program's process.
+
+use crate::ends::End;
+use crate::stops::Stop;
+use hex_io::Word;
+use std::rt::HostRuntime;
+
+/// The arguments of the process, or how a program ends that can't have them: one of them is no
+/// text, or memory ran out. What they are is the caller's affair, so no clause says it.
+pub fn arguments_of(rt: &HostRuntime) -> Result<Vec<Word>, End> {
+    match Word::all(rt) {
+        Ok(Some(words)) => Ok(words),
+        Ok(None) => Err(End::Usage),
+        Err(_) => Err(End::Stopped(Stop::Memory)),
+    }
+}

@@ -1,9 +1,0 @@
-use Rattle.std.proofs.lemmas.Result.{IfOk-weaker}
-use Rattle.option_words.proofs.CommandLemmas.{one_more}
-use Rattle.hexd_args.proofs.command.with_others.Goals as goal
-
-pub returns : goal.returns
-returns c =
-    IfOk-weaker c.with_bare_option.result _ _ (λ m h. one_more _ _ _ _ h
-    (one_more _ _ _ _ c.in_ok-command-3.ensures
-    (one_more _ _ _ _ c.in_ok-command-2.ensures c.in_ok-command.ensures))) c.with_bare_option.ensures
