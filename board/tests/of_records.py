@@ -109,8 +109,9 @@ class Records(Pages):
         self.browser.ready()
 
     def test_what_the_box_takes(self):
-        browser = self.start("6")
+        browser = self.start("6,a1")
         for text, link in (
+            (" ", "6,a1"),
             ("B2 c3", "6,b2,c3"),
             ("1. A3 2. swap-pieces 3. d4", "6,a3,swap,d4"),
             ("11,A3,swap,F6", "11,a3,swap,f6"),

@@ -176,6 +176,7 @@ class Requests(unittest.TestCase):
             (b"(;GaMe[11]SiZe[3];B[a1]C[\\]]LB[a1:x])", "SZ[3];B[a1]C[\\]]LB[a1:x])", None),
             (b"(;SZ[3];B[a1]) :-( [", "SZ[3];B[a1])", "The file has 2 games"),
             (b"(;SZ[3];B[a1];W[b2", "SZ[3];B[a1];)", "The file breaks off"),
+            (b"(;SZ[3]" + b"[" * 1_000_000, "SZ[3])", "The file breaks off"),
             (b"(;SZ[3](;B[a1])(;B[b2])", "SZ[3](;B[a1])(;B[b2]))", "The file breaks off"),
         ):
             status, text = self.server.post("convert", given)
