@@ -169,12 +169,14 @@ def main_line(root):
 
 def read(content):
     """The record in the bytes of a file."""
-    root, trees = tree_of(decoded(content))
+    root, trees, is_whole = tree_of(decoded(content))
     reader = Reader(root)
     reader.probe(Node({name: root.properties[name] for name in "BW" if name in root.properties}), 1)
     reader.convert()
     if trees > 1:
         reader.notes.append(f"The file has {trees} games; this is the first.")
+    if not is_whole:
+        reader.notes.append("The file breaks off in the record: what stands before that is opened.")
     head = {"FF": ["4"], "GM": ["11"], "SZ": [str(reader.size)]}
     root.properties = {**head, **{name: values for name, values in root.properties.items() if name not in head}}
     return Record(printed(root), printed(main_line(root)), reader.size, reader.notes)
@@ -182,7 +184,7 @@ def read(content):
 
 def why_refused(ask, record):
     """Why hexd doesn't load a record: which move it refuses, and why. `ask` gives an answer's text, None of a failure."""
-    root, _ = tree_of(record.main)
+    root, _, _ = tree_of(record.main)
     ask(f"boardsize {record.size}")
     # Stones of the start are played too: hexd takes moves out of turn.
     for colour in COLOURS:

@@ -148,15 +148,27 @@ def made(options):
             return page_of(Reporter(engine, program).report(record, name), given)
 
 
+def written(page):
+    """Writes the page, and gives the status."""
+    try:
+        with open(1, "w", encoding="utf-8", closefd=False) as output:
+            output.write(page)
+        return 0
+    except OSError as fault:
+        print(f"hexd-report: standard output: {fault.strerror}", file=sys.stderr)
+        return 1
+
+
 def main():
     options = wanted(sys.argv[1:])
     try:
-        sys.stdout.write(made(options))
-        return 0
+        page = made(options)
     except (records.Refused, hexd.EngineEnded) as why:
         print(f"hexd-report: {options.record}: {why}", file=sys.stderr)
     except OSError as fault:
         print(f"hexd-report: {fault.filename or options.record}: {fault.strerror}", file=sys.stderr)
+    else:
+        return written(page)
     return 1
 
 

@@ -74,7 +74,7 @@ def is_fit(program, words):
     try:
         fit = subprocess.run([program, "htp", *words], stdin=subprocess.DEVNULL).returncode == 0
     except OSError as fault:
-        print(f"hexd-board: hexd can't be started: {fault}", file=sys.stderr)
+        print(f"hexd-board: hexd can't be started: {program}: {fault.strerror}", file=sys.stderr)
         return False
     if not fit:
         print(f"hexd-board: hexd refuses these words: {' '.join(words)}", file=sys.stderr)
@@ -133,7 +133,11 @@ def main():
         except (OSError, socket.gaierror) as fault:
             print(f"hexd-board: it can't listen: {fault}", file=sys.stderr)
             return 1
-        serve(options, server, sessions)
+        try:
+            serve(options, server, sessions)
+        except OSError as fault:
+            print(f"hexd-board: {fault.strerror}", file=sys.stderr)
+            return 1
 
 
 if __name__ == "__main__":

@@ -3,7 +3,8 @@
 import re
 from dataclasses import dataclass, field
 
-TOKEN = re.compile(r"\[(?:\\.|[^\]\\])*\]|[A-Za-z]+|[();]", re.DOTALL)
+# A bracket alone is that of a value without an end.
+TOKEN = re.compile(r"\[(?:\\.|[^\]\\])*\]|[A-Za-z]+|[();[]", re.DOTALL)
 
 
 class Refused(Exception):
@@ -32,13 +33,19 @@ def decoded(content):
 
 
 def tree_of(text):
-    """The root of the first tree in a text, and how many trees there are; Refused where there is none."""
+    """The root of the first tree in a text, how many trees there are, and whether the first one ends.
+
+    Refused where there is none, or one without a property: other files have `(;` too.
+    """
     start = re.search(r"\(\s*;", text)
-    if not start:
+    if not start or "\0" in text:
         raise Refused("it is no record of a game")
     root, node, last, trees = None, None, None, 0
+    has_property = is_whole = False
     below = []
-    for token in TOKEN.findall(text, start.start()):
+    for token in (found[0] for found in TOKEN.finditer(text, start.start())):
+        if token == "[":
+            break
         if token == "(":
             below.append(node)
             trees += len(below) == 1
@@ -46,6 +53,7 @@ def tree_of(text):
             if not below:
                 break
             node = below.pop()
+            is_whole = is_whole or not below
         elif trees > 1:
             continue
         elif token == ";":
@@ -59,7 +67,10 @@ def tree_of(text):
             last = re.sub("[a-z]", "", token)
         elif node and last:
             node.properties.setdefault(last, []).append(token[1:-1])
-    return root, trees
+            has_property = True
+    if not has_property:
+        raise Refused("it is no record of a game")
+    return root, trees, is_whole
 
 
 def printed(node):

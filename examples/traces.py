@@ -9,6 +9,7 @@ most visits, of these the one with the least cell, as long as there is a block b
 nothing: docs/change/TREE.md says what each word holds.
 """
 
+import signal
 import struct
 import sys
 
@@ -67,8 +68,13 @@ def main_line(words, root):
 def main():
     if len(sys.argv) != 2:
         sys.exit("usage: traces.py NAME")
-    with open(sys.argv[1], "rb") as file:
-        data = file.read()
+    # Who reads a part of it, as head does, ends it.
+    signal.signal(signal.SIGPIPE, signal.SIG_DFL)
+    try:
+        with open(sys.argv[1], "rb") as file:
+            data = file.read()
+    except OSError as fault:
+        sys.exit("traces.py: %s: %s" % (sys.argv[1], fault.strerror))
     for fields, words in trees(data):
         size, root = fields["size"], fields["playouts"] + 2
         player = ("black", "white")[fields["colour"]]

@@ -114,6 +114,8 @@ def expect_other_claim(folder):
     path = folder / "3-b2.cert"
     path.write_text(BLACK_TO_MOVE)
     expect(second_checker.answer(BLACK_TO_MOVE.encode()) == "yes semi", "Black to move is not accepted")
+    named = subprocess.run([second_checker.__file__, path], capture_output=True, text=True, stdin=subprocess.DEVNULL)
+    expect((named.returncode, named.stdout) == (1, ""), f"a file by its name has a verdict: {named.stdout}")
     status, said = openings_check(path)
     expect(status == 1 and said[-1] == "0 accepted, 1 refused", f"Black to move, as a proof of 3-b2: {said}")
 

@@ -146,5 +146,7 @@ def answer(data):
     return next((f"no {at} {why}" for at, why in found if why), f"yes {lines[-1][0]}")
 
 if __name__ == "__main__":
+    if sys.argv[1:]:
+        sys.exit("usage: second_checker.py <FILE")
     print(said := answer(sys.stdin.buffer.read()))
     sys.exit(not said.startswith("yes"))

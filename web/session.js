@@ -19,6 +19,15 @@ function answered(answer) {
   throw new Refused(text);
 }
 
+/** The text of a file: in UTF-8, else with a character for each byte. */
+function decoded(bytes) {
+  try {
+    return new TextDecoder('utf-8', {fatal: true}).decode(bytes);
+  } catch {
+    return new TextDecoder('latin1').decode(bytes);
+  }
+}
+
 class Session {
   constructor(words, run) { Object.assign(this, {words, run, solving: null}); }
 
@@ -36,8 +45,8 @@ class Session {
 
   /** The text of a record in hexd's form, which is all that is read here: {record, notes}. */
   static async convert(bytes) {
-    const text = new TextDecoder().decode(bytes), begin = text.search(/\(\s*;/);
-    if (begin < 0) throw new Refused('it is no record of a game');
+    const text = decoded(bytes), begin = text.search(/\(\s*;/);
+    if (begin < 0 || text.includes('\0')) throw new Refused('it is no record of a game');
     return {record: text.slice(begin), notes: []};
   }
 

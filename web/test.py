@@ -296,7 +296,7 @@ class Page(InBrowser):
         self.assertEqual(["c3", "b3", "d2"], self.moves())
 
     def test_records(self):
-        """What is no record in hexd's form is refused, whatever it has; of a side line it is said that it is left out."""
+        """What is no record in hexd's form is refused, and what is left out of one is said."""
         browser = self.open(f"{self.small.as_uri()}#3,a2")
         for record, link, said in (
             (b"(;SZ[4];B[b2];W[])", "3,a2", "hexd: move 2 is no move: White ''"),
@@ -308,7 +308,10 @@ class Page(InBrowser):
             (b"(;SZ[4:5];B[b2])", "3,a2", "hexd: size 4:5: hexd plays 1 to 11"),
             (b"(\n;SZ[4:4]AW[A1];B[B2])", "4,+w-a1,b2", ""),
             (b"(;B[b2])", "11,b2", ""),
+            (b"(;SZ[4];B[b2];W[c3", "4,b2", "The file breaks off in the record: what stands before that is opened."),
+            (b"(;SZ[4](;B[b2])", "4,b2", "The file breaks off in the record: what stands before that is opened."),
             (b"(;SZ[4];B[b2](;W[a1])(;W[pass];B[c1]))", "4,b2,a1", "A side line is left out: move 2 is no move: White 'pass'."),
+            (b"(;SZ[5]PB[Jos\xe9];B[b2])", "5,b2", ""),
         ):
             with self.subTest(record=record):
                 file = browser.folder / "opened.sgf"
@@ -317,6 +320,7 @@ class Page(InBrowser):
                 told = lambda: (browser.run("return location.hash.slice(1)"), browser.text("#said"))  # noqa: E731
                 until(lambda: told() == (link, said), f"{link} and '{said}'")
                 browser.ready()
+        self.assertIn("Jos\u00e9", browser.text("#record .names"))
 
     def test_a_broken_module(self):
         address = self.changed("broken", r'(id="hexd"[^>]*>)[^<]{400}', r"\1")

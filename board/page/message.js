@@ -28,4 +28,7 @@ class Message {
   }
 
   clear() { this.say(''); }
+
+  /** Takes a text away that is true no longer; another one stays. */
+  take(text) { if (this.element.textContent === text) this.clear(); }
 }

@@ -4,6 +4,7 @@
 // The solver is offered up to this size, and may enter so many positions.
 const LARGEST_PROVED = 6;
 const BUDGET = 1_000_000;
+const AT_WORK = 'hexd is at work: Stop ends it.';
 
 class Play {
   constructor() {
@@ -49,6 +50,7 @@ class Play {
       await this.fail(fault);
     }
     this.stopClock();
+    this.message.take(AT_WORK);
     if (this.stopping && !this.lost) await this.renew();
   }
 
@@ -130,7 +132,7 @@ class Play {
 
   pick(vertex) {
     if (this.thinking) {
-      this.message.say('hexd is at work: Stop ends it.');
+      this.message.say(AT_WORK);
       return;
     }
     this.act(async () => {
@@ -171,6 +173,7 @@ class Play {
   }
 
   openText(text) {
+    if (!text.trim()) return;
     if (text.trim().startsWith('(')) return this.open(new Blob([text]));
     this.stop();
     return this.act(async () => this.take(treeOfMoves(gameOfText(text, this.game.size))));

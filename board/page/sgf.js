@@ -4,11 +4,13 @@
 /** A node of a record: its properties, each a name with its values as they stand in the text, and the nodes that follow. */
 const sgfNode = (properties = {}) => ({properties, children: []});
 
-/** The root of the first tree of a text; null where there is none. */
+/** The first tree of a text: {root, isWhole}, whether it ends; root is null where there is none, or none with a property. */
 function readSgf(text) {
   const below = [];
-  let root = null, node = null, last = null;
-  for (const [token] of text.matchAll(/\[(?:\\[^]|[^\]\\])*\]|[A-Z]+|[();]/g)) {
+  let root = null, node = null, last = null, hasProperty = false;
+  // A bracket alone is that of a value without an end.
+  for (const [token] of text.matchAll(/\[(?:\\[^]|[^\]\\])*\]|[A-Z]+|[();[]/g)) {
+    if (token === '[') break;
     if (token === '(') {
       below.push(node);
     } else if (token === ')') {
@@ -23,9 +25,10 @@ function readSgf(text) {
       last = token;
     } else if (node && last) {
       (node.properties[last] ??= []).push(token.slice(1, -1));
+      hasProperty = true;
     }
   }
-  return root;
+  return {root: hasProperty ? root : null, isWhole: !below.length};
 }
 
 /** The text of a tree. */

@@ -70,6 +70,12 @@ class Ends(unittest.TestCase):
                 run = ran("--port", "0", *words)
                 self.assertEqual((2, "", said), (run.returncode, run.stdout, run.stderr))
 
+    def test_without_a_place_for_its_address(self):
+        command = dying(ROOT / "bin/hexd-board", "--port", "0")
+        with open("/dev/full", "w") as full:
+            run = subprocess.run(command, stdin=subprocess.DEVNULL, stdout=full, stderr=subprocess.PIPE, timeout=LIMIT_SECONDS)
+        self.assertEqual((1, b"hexd-board: No space left on device\n"), (run.returncode, run.stderr))
+
     def test_what_it_searches_with(self):
         for words, want in (
             ([], {"playouts": 100_000, "weight": 0, "workers": min(4, len(os.sched_getaffinity(0)))}),

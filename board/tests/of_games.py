@@ -328,6 +328,7 @@ class Lasting(Pages):
             self.soon("hexd is at work: Stop ends it.", self.words("#said"))
             browser.press("#stop")
             browser.ready()
+            self.soon("", self.words("#said"))
             self.soon(["f6"], self.moves)
             browser.press("#analyse")
             self.soon("hexd looks at position 1 of 2 ..", self.words("#state"))

@@ -22,6 +22,8 @@ class Records(Pages):
         for record, why in (
             (b"(;GM[1])", "hexd: it is a record of another game than Hex: GM[1]"),
             (b"none", "hexd: it is no record of a game"),
+            (b"for (;;) {}", "hexd: it is no record of a game"),
+            (b"\x89PNG\0(;B[a1])", "hexd: it is no record of a game"),
             (b"(;SZ[14];B[a1])", "hexd: size 14: hexd plays 1 to 11"),
             (b"(;SZ[3];B[b2];W[b2])", "hexd: move 2 is illegal: White b2, for there is a stone on it"),
             (b"(;SZ[3];B[b2];W[d1])", "hexd: move 2 is illegal: White d1, for the board of size 3 has no such cell"),
@@ -107,8 +109,9 @@ class Records(Pages):
         self.browser.ready()
 
     def test_what_the_box_takes(self):
-        browser = self.start("6")
+        browser = self.start("6,a1")
         for text, link in (
+            (" ", "6,a1"),
             ("B2 c3", "6,b2,c3"),
             ("1. A3 2. swap-pieces 3. d4", "6,a3,swap,d4"),
             ("11,A3,swap,F6", "11,a3,swap,f6"),

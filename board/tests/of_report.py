@@ -59,6 +59,13 @@ class Reports(unittest.TestCase):
             run = reported(*words, "-", given="(;SZ[1])")
             self.assertIn(f"looked at by hexd with {want}<", run.stdout, run.stderr)
 
+    def test_without_a_place_for_the_page(self):
+        command = dying(ROOT / "bin/hexd-report", "--playouts", "9", "-")
+        with open("/dev/full", "w") as full:
+            run = subprocess.run(command, input=b"(;SZ[1])", stdout=full, stderr=subprocess.PIPE, timeout=LIMIT_SECONDS)
+        said = b"0 of 0\nhexd-report: standard output: No space left on device\n"
+        self.assertEqual((1, said), (run.returncode, run.stderr))
+
     def test_what_is_refused(self):
         missing = reported(self.folder / "none.sgf")
         self.assertEqual((1, ""), (missing.returncode, missing.stdout))

@@ -174,6 +174,10 @@ class Requests(unittest.TestCase):
             (b"(;SZ[3];B[tt];W[PASS];B[C1])", "SZ[3];;;B[c1])", "Move 1 is a pass of Black's"),
             (b"(;SZ[3]AB[A1][bb];W[c2])(;SZ[9])", "SZ[3]AB[a1][b2];W[c2])", "The file has 2 games"),
             (b"(;GaMe[11]SiZe[3];B[a1]C[\\]]LB[a1:x])", "SZ[3];B[a1]C[\\]]LB[a1:x])", None),
+            (b"(;SZ[3];B[a1]) :-( [", "SZ[3];B[a1])", "The file has 2 games"),
+            (b"(;SZ[3];B[a1];W[b2", "SZ[3];B[a1];)", "The file breaks off"),
+            (b"(;SZ[3]" + b"[" * 1_000_000, "SZ[3])", "The file breaks off"),
+            (b"(;SZ[3](;B[a1])(;B[b2])", "SZ[3](;B[a1])(;B[b2]))", "The file breaks off"),
         ):
             status, text = self.server.post("convert", given)
             got = json.loads(text)
@@ -181,6 +185,8 @@ class Requests(unittest.TestCase):
             self.assertTrue(got["notes"][0].startswith(note) if note else not got["notes"], got["notes"])
         for wrong, why in (
             (b"", "it is no record of a game"),
+            (b"for (;;) { x[0] = 1 }", "it is no record of a game"),
+            (b"\x89PNG\0(;B[a1])", "it is no record of a game"),
             (b"(;SZ[14])", "size 14: hexd plays 1 to 11"),
             (b"(;GM[1])", "it is a record of another game than Hex: GM[1]"),
             (b"(;B[a1]W[a2])", "node 1 has two moves"),

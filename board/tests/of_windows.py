@@ -33,6 +33,17 @@ class Windows(Pages):
         begins = box["width"] > 0 and box["left"] >= 0 and box["top"] >= 0
         return begins and box["right"] <= size[0] and box["bottom"] <= size[1]
 
+    def test_long_words_of_a_record_are_broken(self):
+        word = b"https://example.org/" + b"x" * 80
+        self.browser.window(SMALL)
+        self.start("3")
+        self.opened(b"(;SZ[3]PB[%s]GN[%s]RE[%s]C[%s];B[b2])" % ((word,) * 4))
+        self.soon("3,b2", self.link)
+        self.browser.click("#first")
+        self.soon_in("https", "#record .comment")
+        self.assertTrue(self.fits())
+        self.assertEqual(SMALL[0], self.browser.run("return innerWidth"))
+
     def test_sizes_from_1_to_11(self):
         browser = self.start()
         for size in range(1, 12):
