@@ -23,12 +23,14 @@ OF_PLAYERS = {"PB": "PW", "PW": "PB", "BR": "WR", "WR": "BR", "BT": "WT", "WT": 
 
 @dataclass(frozen=True)
 class Record:
-    """A record in hexd's form: all of its text, that of its main line alone, its size, and what was changed or left out."""
+    """A record in hexd's form: all of its text, that of its main line alone, its size, what was changed or left out, and whether
+    the file had all of it."""
 
     text: str
     main: str
     size: int
     notes: list
+    is_whole: bool
 
 
 def cell_of(value, crossed):
@@ -179,7 +181,7 @@ def read(content):
         reader.notes.append("The file breaks off in the record: what stands before that is opened.")
     head = {"FF": ["4"], "GM": ["11"], "SZ": [str(reader.size)]}
     root.properties = {**head, **{name: values for name, values in root.properties.items() if name not in head}}
-    return Record(printed(root), printed(main_line(root)), reader.size, reader.notes)
+    return Record(printed(root), printed(main_line(root)), reader.size, reader.notes, is_whole)
 
 
 def why_refused(ask, record):

@@ -25,6 +25,8 @@ def load_other(session, file):
         raise Refused(b"cannot load file: " + str(why).encode()) from None
     except OSError:
         raise Refused(b"read fault") from None
+    if not record.is_whole:
+        raise Refused(b"cannot load file: it breaks off in the record")
     text = os.memfd_create("game")
     os.write(text, record.main.encode())
     try:

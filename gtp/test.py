@@ -88,6 +88,7 @@ ROWS = [
     ("loadsgf {folder}/a  game.sgf/x", "? read fault\n\n"),
     ("loadsgf {folder}/a pipe", "? read fault\n\n"),
     ("loadsgf {folder}/a text", "? cannot load file: it is no record of a game\n\n"),
+    ("loadsgf {folder}/cut.sgf", "? cannot load file: it breaks off in the record\n\n"),
     ("loadsgf {folder}/large.sgf", "? cannot load file: size 14: hexd plays 1 to 11\n\n"),
     ("loadsgf {folder}/wrong.sgf", "? cannot load file: move 2 is illegal: White b2, for there is a stone on it\n\n"),
     ("loadsgf {folder}", "? read fault\n\n"),
@@ -138,6 +139,7 @@ def rows_fault():
     with tempfile.TemporaryDirectory() as folder:
         Path(folder, "a  game.sgf").write_text("(;GM[11]SZ[2];B[a2])")
         Path(folder, "a text").write_text("no record")
+        Path(folder, "cut.sgf").write_text("(;SZ[3];B[a1];W[b2")
         Path(folder, "large.sgf").write_text("(;SZ[14];B[a1])")
         Path(folder, "wrong.sgf").write_text("(;SZ[3];B[b2];W[B2])")
         # As another program may write it: text before it, capitals, cells in two letters, a pass at the end.

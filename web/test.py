@@ -310,6 +310,7 @@ class Page(InBrowser):
             (b"(;B[b2])", "11,b2", ""),
             (b"(;SZ[4];B[b2];W[c3", "4,b2", "The file breaks off in the record: what stands before that is opened."),
             (b"(;SZ[4](;B[b2])", "4,b2", "The file breaks off in the record: what stands before that is opened."),
+            (b"(;SZ[4];B[b2])(;SZ[4];B[c3])", "4,b2", "The file has 2 games; this is the first."),
             (b"(;SZ[4];B[b2](;W[a1])(;W[pass];B[c1]))", "4,b2,a1", "A side line is left out: move 2 is no move: White 'pass'."),
             (b"(;SZ[5]PB[Jos\xe9];B[b2])", "5,b2", ""),
         ):

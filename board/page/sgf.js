@@ -4,18 +4,23 @@
 /** A node of a record: its properties, each a name with its values as they stand in the text, and the nodes that follow. */
 const sgfNode = (properties = {}) => ({properties, children: []});
 
-/** The first tree of a text: {root, isWhole}, whether it ends; root is null where there is none, or none with a property. */
+/** The first tree of a text: {root, trees, isWhole}, with how many trees there are, and whether the first one ends; root is null
+    if there is none, or none with a property. */
 function readSgf(text) {
   const below = [];
-  let root = null, node = null, last = null, hasProperty = false;
+  let root = null, node = null, last = null, trees = 0, hasProperty = false, isWhole = false;
   // A bracket alone is that of a value without an end.
   for (const [token] of text.matchAll(/\[(?:\\[^]|[^\]\\])*\]|[A-Z]+|[();[]/g)) {
     if (token === '[') break;
     if (token === '(') {
+      if (!below.length) trees++;
       below.push(node);
     } else if (token === ')') {
-      node = below.pop() ?? null;
       if (!below.length) break;
+      node = below.pop();
+      isWhole ||= !below.length;
+    } else if (trees > 1) {
+      continue;
     } else if (token === ';') {
       const made = sgfNode();
       root ??= made;
@@ -28,7 +33,7 @@ function readSgf(text) {
       hasProperty = true;
     }
   }
-  return {root: hasProperty ? root : null, isWhole: !below.length};
+  return {root: hasProperty ? root : null, trees, isWhole};
 }
 
 /** The text of a tree. */

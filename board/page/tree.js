@@ -100,7 +100,7 @@ function mergeProperties(position, properties, left) {
 
 /** The tree of a record in hexd's form, and sentences on what of it is left out: {tree, notes}. Refused if it isn't in it. */
 function treeOfRecord(text) {
-  const {root, isWhole} = readSgf(text), left = new Set(), notes = [];
+  const {root, trees, isWhole} = readSgf(text), left = new Set(), notes = [];
   if (!root) throw new Refused('it is no record of a game');
   const {FF, GM: [game] = ['11'], SZ: [size] = ['11'], AB, AW, B, W, [HERE]: isHere, ...properties} = root.properties;
   if (game !== '11') throw new Refused(`it is a record of another game than Hex: GM[${game}]`);
@@ -121,6 +121,7 @@ function treeOfRecord(text) {
   }
   tree.goTo(endOf(tree.root));
   if (here) tree.goTo(here);
+  if (trees > 1) notes.push(`The file has ${trees} games; this is the first.`);
   if (!isWhole) notes.push('The file breaks off in the record: what stands before that is opened.');
   if (left.size) notes.push(`Left out: ${[...left].join(', ')} of nodes without a move.`);
   return {tree, notes};
