@@ -12,6 +12,7 @@ use option_words::command_with;
 use std::alloc::{AllocError, Global};
 
 /// The command: one positional word, which is required, and the options.
+#[tactic(auto, unfolding(crate::specs::Table::hexd_app))]
 pub fn command<'a>(alloc: Global) -> Result<Command<'a>, AllocError>
     ensures { IfOk result (λ c. app_of c ≡ hexd_app) }
 {

@@ -10,6 +10,7 @@ use option_words::command_with;
 use std::alloc::{AllocError, Global};
 
 /// The command: the options. A positional word is none of them, and refused when it is read.
+#[tactic(auto, unfolding(crate::specs::MatchTable::match_app))]
 pub fn command<'a>(alloc: Global) -> Result<Command<'a>, AllocError>
     ensures { IfOk result (λ c. app_of c ≡ match_app) }
 {
