@@ -134,4 +134,4 @@ function claimWords({size, player, claim}) {
 
 /** What the second process said of a certificate, in words. */
 const checkWords = said =>
-  (/^yes (full|semi)$/.test(said) ? 'hexd check accepts it, in a process of its own.' : `hexd check refuses it: ${said}`);
+  (/^yes (full|semi)$/.test(said) ? 'hexd check accepts it, in a run of its own.' : `hexd check refuses it: ${said}`);

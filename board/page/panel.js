@@ -116,7 +116,7 @@ class Panel {
     byId('size').value = game.size;
     byId('alert').hidden = !lost;
     byId('room').hidden = !full;
-    byId('again').textContent = full ? 'Try again' : 'Go on with a new process';
+    byId('again').textContent = full ? 'Try again' : 'Go on with a new hexd';
     byId('alert-text').textContent = lost ?? '';
     if (settings) byId('strength-words').textContent = strengthWords(settings, game.pace);
     if (document.activeElement !== byId('link')) byId('link').value = `${Session.address}#${linkOfTree(game.tree)}`;

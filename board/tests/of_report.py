@@ -129,7 +129,7 @@ def in_browser(shots):
             self.assertEqual("a game.sgf", browser.text("h1"))
             self.assertIn("The start", browser.text("#said"))
             self.assertIn("This move is outside a threat: after it White wins.", self.to(2))
-            self.assertIn("hexd check accepts it, in a process of its own.", self.to(3))
+            self.assertIn("hexd check accepts it, in a run of its own.", self.to(3))
             self.assertIn("This move gives the win away.", browser.text("#said"))
             self.assertEqual(4, len(browser.all("#stage .stone")) + 1)
             self.shot("report")

@@ -108,7 +108,7 @@ class Certificates(Pages):
         self.assertEqual("c4", self.moves()[-1])
         self.soon_in("White wins by c4: a certified win", "#words")
         self.soon_in("White joins column a and column e if White moves first", "#claim")
-        self.soon("hexd check accepts it, in a process of its own.", self.words("#checked"))
+        self.soon("hexd check accepts it, in a run of its own.", self.words("#checked"))
         self.assertIn("c4", self.carrier())
         browser.click("#proof summary")
         lines = browser.all("#lines button")
@@ -165,7 +165,7 @@ class Certificates(Pages):
         browser = self.start("4,d1,b3")
         browser.click("#prove")
         self.soon_in("Solved: ", "#words .proved")
-        self.soon("hexd check accepts it, in a process of its own.", self.words("#checked"))
+        self.soon("hexd check accepts it, in a run of its own.", self.words("#checked"))
         move = re.search("Black wins by ([a-d][1-4])", browser.text("#words .proved"))[1]
         self.assertEqual([move], browser.vertices("[data-vertex]:has(.chosen)"))
         self.assertIn(move, self.carrier())

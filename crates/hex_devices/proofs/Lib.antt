@@ -10,5 +10,6 @@
 
 -- Laws for the layers above.
 pub mod CountLaws
-pub mod InputLaws
 pub mod StatusLaws
+-- Steps of this crate's own proofs.
+mod InputLaws

@@ -10,7 +10,7 @@
 --    are, it finds none, and its values are what they say.
 -- 5. proofs/LineLaw: both together. proofs/HyphenLemmas: a hyphen alone is no part of a line, but
 --    for the positional word.
--- 6. `hexd_args::read_words` adds the table and the values: specs/Table.antt, Values.antt,
+-- 6. `hexd_args::CommandLine::read` adds the table and the values: specs/Table.antt, Values.antt,
 --    Reading.antt (`WellFormed`), proofs/WellLemmas (that its command reads its form is computed
 --    there). So does `match_ref::read_match_words`: specs/MatchTable.antt, MatchWords.antt
 --    (`AskFor`), proofs/WordLaws.
