@@ -55,7 +55,7 @@ pub enum Quiet {
 }
 
 /// All commands, in the order in which `list_commands` names them.
-pub const COMMANDS: [Command; 18] = [
+pub const COMMANDS: &[Command] = &[
     Command::Quiet(Quiet::BoardSize),
     Command::Quiet(Quiet::ClearBoard),
     Command::GenMove,

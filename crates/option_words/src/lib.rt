@@ -38,6 +38,8 @@
 //!   reads it, are a crate below both. That a program's command reads its table is computed for
 //!   that table (`ReadsForm`), and not proved of every table: names have to be told apart anyway,
 //!   by computation too.
+//! - A command gets its options as one list, so that a program's table is one list in its code and
+//!   one in its definitions, without a proof of its own.
 //! - A form says only whether a positional word is required; match_ref, which wants none, refuses
 //!   one when it reads the values. So the grammar has no second kind of line.
 #![tactic(auto)]
