@@ -1,2 +1,6 @@
 mod Choices
 mod Slots
+mod Walks
+mod Linking
+mod Unlinking
+mod Tabled
