@@ -1,12 +1,12 @@
 -- One more entry: at the end, and the newest of its bucket.
-use Rattle.std.proofs.Common.{◌≡◌, ◌≢◌, ℕ, ◌+◌, ◌<◌, ◌≤◌, ◌⊎◌, inl, inr, List, [], ◌∷◌, ◌++◌, All}
+use Rattle.std.proofs.Common.{◌≡◌, ◌≢◌, ℕ, ◌+◌, ◌<◌, inl, inr, List, [], ◌∷◌, ◌++◌}
 use Rattle.std.proofs.Common.{get_or, length, map, arith, refl, ap, sym, ◌∙◌, slice_set}
 use Rattle.std.proofs.lemmas.Bool.{cases_eq, cases_lt}
 use Rattle.std.proofs.lemmas.List.{get_or_append_left, get_or-set_other, get_or-set_same, length-append}
 use Rattle.std.proofs.lemmas.List.{length-map, length-set, map-append}
 use Rattle.std.proofs.Math.Seq.{get_or-append_seam}
 use Rattle.edge_tables.specs.Buckets.{key_bucket}
-use Rattle.edge_tables.specs.Links.{HasReached, IsLinked, IsNotPassed, IsReached, LeadBack, LeadInto, bucket_at, link_at}
+use Rattle.edge_tables.specs.Links.{HasChained, AreChains, IsNotPassed, IsChained, LeadBack, LeadInto, bucket_at, link_at}
 use Rattle.edge_tables.specs.declared.buckets.TheConstants.{BUCKETS, NOWHERE}
 use Rattle.edge_tables.specs.declared.tables.TheConstants.{MOST_ENTRIES}
 use Rattle.edge_tables.specs.declared.tables.EdgeEntry.{EdgeEntry}
@@ -43,7 +43,7 @@ link_last : (links : List ℕ) (x n k : ℕ) → length links ≡ n → k ≡ n
 link_last links x n k e same = rw (same, ← e) (get_or-append_seam links x [] NOWHERE)
 
 module _ (entries : List EdgeEntry) (heads links : List ℕ) (e : EdgeEntry) (b : ℕ)
-    (w : IsLinked entries heads links) (is : b ≡ key_bucket e.key) (small : b < length heads) where
+    (w : AreChains entries heads links) (is : b ≡ key_bucket e.key) (small : b < length heads) where
   into_more : LeadInto (entries ++ e ∷ []) (slice_set heads b (length entries))
   into_more bucket = elim (cases_eq bucket b) [
     | inl same ↦
@@ -100,7 +100,7 @@ module _ (entries : List EdgeEntry) (heads links : List ℕ) (e : EdgeEntry) (b 
             ]
       ]
 
-  passed_more : (p : ℕ) → p < length entries → IsReached entries heads links p
+  passed_more : (p : ℕ) → p < length entries → IsChained entries heads links p
       → IsNotPassed (entries ++ e ∷ []) (links ++ link_at heads b ∷ []) p
   passed_more p lp r q l lq same =
       let more : length (entries ++ e ∷ []) ≡ length entries + 1 = longer entries e in
@@ -123,9 +123,9 @@ module _ (entries : List EdgeEntry) (heads links : List ℕ) (e : EdgeEntry) (b 
             (omega (arith, first.0, here), omega (arith, first.1, here))
       ]
 
-  reached_more : (p : ℕ) → p < length entries → IsReached entries heads links p
-      → IsReached (entries ++ e ∷ []) (slice_set heads b (length entries)) (links ++ link_at heads b ∷ []) p
-  reached_more p lp r =
+  chained_more : (p : ℕ) → p < length entries → IsChained entries heads links p
+      → IsChained (entries ++ e ∷ []) (slice_set heads b (length entries)) (links ++ link_at heads b ∷ []) p
+  chained_more p lp r =
       let more : length (entries ++ e ∷ []) ≡ length entries + 1 = longer entries e in
       record {
         first = rw (bucket_left entries e p lp) (elim (cases_eq (bucket_at entries p) b) [
@@ -143,13 +143,13 @@ module _ (entries : List EdgeEntry) (heads links : List ℕ) (e : EdgeEntry) (b 
         later = passed_more p lp r;
       }
 
-  served_more : (x : EdgeEntry) → HasReached entries heads links x
-      → HasReached (entries ++ e ∷ []) (slice_set heads b (length entries)) (links ++ link_at heads b ∷ []) x
+  served_more : (x : EdgeEntry) → HasChained entries heads links x
+      → HasChained (entries ++ e ∷ []) (slice_set heads b (length entries)) (links ++ link_at heads b ∷ []) x
   served_more x (p, one, lp, at, fits, r) =
       let more : length (entries ++ e ∷ []) ≡ length entries + 1 = longer entries e in
-      (p, one, omega arith, get_or_append_left entries (e ∷ []) one p lp ∙ at, fits, reached_more p lp r)
+      (p, one, omega arith, get_or_append_left entries (e ∷ []) one p lp ∙ at, fits, chained_more p lp r)
 
-  served_last : HasReached (entries ++ e ∷ []) (slice_set heads b (length entries)) (links ++ link_at heads b ∷ []) e
+  served_last : HasChained (entries ++ e ∷ []) (slice_set heads b (length entries)) (links ++ link_at heads b ∷ []) e
   served_last =
       let more : length (entries ++ e ∷ []) ≡ length entries + 1 = longer entries e in (
         length entries,
@@ -164,9 +164,9 @@ module _ (entries : List EdgeEntry) (heads links : List ℕ) (e : EdgeEntry) (b 
         },
       )
 
-  pub linked_more : length entries < MOST_ENTRIES
-      → IsLinked (entries ++ e ∷ []) (slice_set heads b (length entries)) (links ++ link_at heads b ∷ [])
-  linked_more room =
+  pub chains_more : length entries < MOST_ENTRIES
+      → AreChains (entries ++ e ∷ []) (slice_set heads b (length entries)) (links ++ link_at heads b ∷ [])
+  chains_more room =
       let more : length (entries ++ e ∷ []) ≡ length entries + 1 = longer entries e in
       record {
         few = omega arith;

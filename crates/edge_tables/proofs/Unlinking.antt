@@ -1,10 +1,10 @@
 -- A place is taken out of its bucket: the link before it leads past it.
-use Rattle.std.proofs.Common.{◌≡◌, ◌≢◌, ℕ, ◌+◌, ◌<◌, ◌≤◌, ◌⊎◌, inl, inr, List, All}
+use Rattle.std.proofs.Common.{◌≡◌, ◌≢◌, ℕ, ◌+◌, ◌<◌, ◌≤◌, ◌⊎◌, inl, inr, List}
 use Rattle.std.proofs.Common.{get_or, length, arith, refl, ap, sym, ◌∙◌, slice_set}
 use Rattle.std.proofs.lemmas.Bool.{cases_eq}
 use Rattle.std.proofs.lemmas.List.{get_or-set_other, get_or-set_same, length-set}
 use Rattle.hex_cells.specs.Sets.{has}
-use Rattle.edge_tables.specs.Links.{HasReached, IsLinked, IsNotPassed, IsReached, LeadBack, StandsFor}
+use Rattle.edge_tables.specs.Links.{HasChained, AreChains, IsNotPassed, LeadBack, StandsFor}
 use Rattle.edge_tables.specs.Links.{bucket_at, link_at}
 use Rattle.edge_tables.specs.declared.buckets.TheConstants.{NOWHERE}
 use Rattle.edge_tables.specs.declared.tables.TheConstants.{MOST_ENTRIES}
@@ -12,7 +12,7 @@ use Rattle.edge_tables.specs.declared.tables.EdgeEntry.{EdgeEntry}
 use Rattle.edge_tables.proofs.Walks.{one_there}
 
 -- the link from `previous` leads to `place`
-pub record Before (entries : List EdgeEntry) (links : List ℕ) (previous place : ℕ) : Type 0 where
+pub record Preceding (entries : List EdgeEntry) (links : List ℕ) (previous place : ℕ) : Type 0 where
   pub few : length entries ≤ MOST_ENTRIES
   pub count : length links ≡ length entries
   pub back : LeadBack entries links
@@ -21,7 +21,7 @@ pub record Before (entries : List EdgeEntry) (links : List ℕ) (previous place 
 
 -- so they have one bucket
 in_order : (entries : List EdgeEntry) (links : List ℕ) (previous place : ℕ)
-    → Before entries links previous place → place < length entries
+    → Preceding entries links previous place → place < length entries
     → (place < previous) × (bucket_at entries place ≡ bucket_at entries previous)
 in_order entries links previous place w l = elim (w.back previous w.here) [
   | inl none ↦ absurd (omega (arith, w.leads, w.few, none))
@@ -32,7 +32,7 @@ set_here : (links : List ℕ) (i x j : ℕ) → i < length links → j ≡ i →
 set_here links i x j l same = rw same (get_or-set_same links i x NOWHERE l)
 
 pub back_without : (entries : List EdgeEntry) (links : List ℕ) (previous place : ℕ)
-    → Before entries links previous place → place < length entries
+    → Preceding entries links previous place → place < length entries
     → LeadBack entries (slice_set links previous (link_at links place))
 back_without entries links previous place w l q lq =
     let order = in_order entries links previous place w l in
@@ -54,7 +54,7 @@ back_without entries links previous place w l q lq =
     ]
 
 pub passed_without : (entries : List EdgeEntry) (links : List ℕ) (previous place p : ℕ)
-    → Before entries links previous place → place < length entries → p ≢ place
+    → Preceding entries links previous place → place < length entries → p ≢ place
     → IsNotPassed entries links p
     → IsNotPassed entries (slice_set links previous (link_at links place)) p
 passed_without entries links previous place p w l apart h q lq lq' bucket =
@@ -76,8 +76,8 @@ passed_without entries links previous place p w l apart h q lq lq' bucket =
 
 -- the link that leads past the place, and the next link from there
 pub before_without : (entries : List EdgeEntry) (links new : List ℕ) (previous place next : ℕ)
-    → Before entries links previous place → place < length entries → next ≡ link_at links place
-    → new ≡ slice_set links previous next → Before entries new previous next
+    → Preceding entries links previous place → place < length entries → next ≡ link_at links place
+    → new ≡ slice_set links previous next → Preceding entries new previous next
 before_without entries links new previous place next w l is e =
     let count : length links ≡ length entries = w.count in
     let here : previous < length entries = w.here in
@@ -90,8 +90,8 @@ before_without entries links new previous place next w l is e =
     })
 
 pub before_on : (entries : List EdgeEntry) (links : List ℕ) (previous place next : ℕ)
-    → Before entries links previous place → place < length entries → next ≡ link_at links place
-    → Before entries links place next
+    → Preceding entries links previous place → place < length entries → next ≡ link_at links place
+    → Preceding entries links place next
 before_on entries links previous place next w l is = record {
   few = w.few;
   count = w.count;
@@ -103,7 +103,7 @@ before_on entries links previous place next w l is = record {
 -- one step of taking out: of each place that no link passed, none does still, or the newest entry
 -- stands for it
 pub thinned_on : (entries : List EdgeEntry) (old links new : List ℕ) (newest previous place next : ℕ)
-    → Before entries links previous place → place < length entries → next ≡ link_at links place
+    → Preceding entries links previous place → place < length entries → next ≡ link_at links place
     → new ≡ slice_set links previous next → StandsFor entries newest place
     → ((k : ℕ) → IsNotPassed entries old k → IsNotPassed entries links k ⊎ StandsFor entries newest k)
     → (k : ℕ) → IsNotPassed entries old k → IsNotPassed entries new k ⊎ StandsFor entries newest k
@@ -120,7 +120,7 @@ served_still : (entries : List EdgeEntry) (heads old new : List ℕ) (newest : �
     → length entries ≡ newest + 1 → link_at heads (bucket_at entries newest) ≡ newest
     → ((k : ℕ) → IsNotPassed entries old k
     → IsNotPassed entries new k ⊎ StandsFor entries newest k)
-    → HasReached entries heads old x → HasReached entries heads new x
+    → HasChained entries heads old x → HasChained entries heads new x
 served_still entries heads old new newest x last first kept (p, one, lp, at, fits, r) =
     elim (kept p r.later) [
       | inl n ↦ (p, one, lp, at, fits, record { first = r.first; later = n })
@@ -139,14 +139,14 @@ served_still entries heads old new newest x last first kept (p, one, lp, at, fit
     ]
 
 -- all that the newest entry stands for may be taken out
-pub linked_thinned : (entries : List EdgeEntry) (heads old new : List ℕ) (newest : ℕ)
-    → IsLinked entries heads old → length entries ≡ newest + 1
+pub chains_without : (entries : List EdgeEntry) (heads old new : List ℕ) (newest : ℕ)
+    → AreChains entries heads old → length entries ≡ newest + 1
     → link_at heads (bucket_at entries newest) ≡ newest
     → length new ≡ length entries → LeadBack entries new
     → ((k : ℕ) → IsNotPassed entries old k
     → IsNotPassed entries new k ⊎ StandsFor entries newest k)
-    → IsLinked entries heads new
-linked_thinned entries heads old new newest w last first count back kept = record {
+    → AreChains entries heads new
+chains_without entries heads old new newest w last first count back kept = record {
   few = w.few;
   buckets = w.buckets;
   count = count;

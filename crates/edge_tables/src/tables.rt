@@ -11,7 +11,7 @@ ghost use Rattle.edge_tables.specs.Buckets.{key_bucket, kind_bit, player_bit};
 ghost use Rattle.edge_tables.specs.Entries.{FitsRegion, HasAsFew, HasFit, HasFitWithout};
 ghost use Rattle.edge_tables.specs.Entries.{HasStandIn, HasStandInIfFits};
 ghost use Rattle.edge_tables.specs.Entries.{IsNeedless, IsPrefixOf, Replaces};
-ghost use Rattle.edge_tables.specs.Links.{IsNotPassed, LeadBack, StandsFor, entries_of, links_of};
+ghost use Rattle.edge_tables.specs.Links.{IsNotPassed, LeadBack, StandsFor, entries_of, befores_of};
 ghost use Rattle.edge_tables.specs.declared.tables.EdgeEntry.{EdgeEntry};
 ghost use Rattle.edge_tables.specs.declared.tables.Slot.{Slot};
 
@@ -89,10 +89,11 @@ impl Model for Tables {
 
     ghost view = { λ t. map (λ (s : Slot). s.entry) t.slots.items };
 
-    ghost use Rattle.edge_tables.specs.Links.{IsLinked, entries_of, links_of};
+    ghost use Rattle.edge_tables.specs.Links.{AreChains, befores_of, entries_of};
 
+    // In the chains of the buckets one stands for each of them.
     ghost invariant = { λ t.
-        IsLinked (entries_of t.slots.items) t.heads.places.items (links_of t.slots.items) };
+        AreChains (entries_of t.slots.items) t.heads.places.items (befores_of t.slots.items) };
 }
 
 // The bucket of a key.
@@ -198,7 +199,7 @@ impl Tables {
         }
     }
 
-    /// Whether there is an entry with that key inside the region.
+    /// Whether an entry with that key inside the region was put.
     pub fn has(&self, key: &Key, region: CellSet) -> bool
         ensures { IsTrue result ↔ HasFit self.now key.now region }
     {
@@ -235,7 +236,8 @@ impl Tables {
         cells
     }
 
-    /// Of the entries with that key inside the region the one with the least of this.
+    /// Of the entries with that key inside the region, without those that were made needless, the
+    /// one with the least of this; `None` if none was put. By cells none that was put has fewer.
     pub fn least(&self, key: &Key, region: CellSet, measure: Measure) -> Option<EdgeEntry>
         ensures there { IfSome result (Contains self.now) }
         ensures fits { IfSome result (FitsRegion key.now region) }
@@ -259,7 +261,8 @@ impl Tables {
         best
     }
 
-    /// The entries with that key inside the region.
+    /// The entries with that key inside the region, without those that were made needless: for each
+    /// of these one that stands wherever it does.
     pub fn list(&self, alloc: Global, key: &Key, region: CellSet) -> Result<Vec<EdgeEntry>, Stop>
         ensures there { IfOk result (λ list. All (Contains self.now) list.items) }
         ensures fits { IfOk result (λ list. All (FitsRegion key.now region) list.items) }
@@ -282,7 +285,7 @@ impl Tables {
     }
 
     /// Adds an entry, unless one that is there makes it needless. Those that it makes needless keep
-    /// their places, and are found no more.
+    /// their places, and it is found in place of them.
     pub fn put(&mut self, entry: &EdgeEntry) -> Result<(), Stop>
         ensures put { OnOk result ((self.new ≡ self.old ++ entry.now ∷ [])
             ⊎ ((self.new ≡ self.old) × IsNeedless self.old entry.now)) }
@@ -298,7 +301,7 @@ impl Tables {
         self.append(entry)
     }
 
-    // Adds an entry at the end, and takes out of its bucket those that it makes needless.
+    // Adds an entry at the end, and takes those that it makes needless out of its bucket's chain.
     fn append(&mut self, entry: &EdgeEntry) -> Result<(), Stop>
         requires { length self.old < MOST_ENTRIES }
         ensures put { OnOk result (self.new ≡ self.old ++ entry.now ∷ []) }
@@ -346,15 +349,15 @@ impl Tables {
     }
 }
 
-// Takes those out of their bucket that the one at the place `newest` makes needless.
+// Takes those that the one at the place `newest` makes needless out of their bucket's chain.
 fn drop_needless(slots: &mut [Slot], newest: usize)
     requires few { length slots.old ≤ MOST_ENTRIES }
-    requires back { LeadBack (entries_of slots.old) (links_of slots.old) }
+    requires back { LeadBack (entries_of slots.old) (befores_of slots.old) }
     ensures entries { map (λ (s : Slot). s.entry) slots.new
         ≡ map (λ (s : Slot). s.entry) slots.old }
-    ensures back { LeadBack (entries_of slots.new) (links_of slots.new) }
-    ensures served { (k : ℕ) → IsNotPassed (entries_of slots.old) (links_of slots.old) k
-        → IsNotPassed (entries_of slots.new) (links_of slots.new) k
+    ensures back { LeadBack (entries_of slots.new) (befores_of slots.new) }
+    ensures served { (k : ℕ) → IsNotPassed (entries_of slots.old) (befores_of slots.old) k
+        → IsNotPassed (entries_of slots.new) (befores_of slots.new) k
         ⊎ StandsFor (entries_of slots.new) newest k }
 {
     let Some(first) = slots.get(newest) else {
@@ -381,7 +384,7 @@ fn drop_needless(slots: &mut [Slot], newest: usize)
 fn set_before(slots: &mut [Slot], place: usize, before: u32)
     ensures entries { map (λ (s : Slot). s.entry) slots.new
         ≡ map (λ (s : Slot). s.entry) slots.old }
-    ensures links { links_of slots.new ≡ slice_set (links_of slots.old) place before }
+    ensures links { befores_of slots.new ≡ slice_set (befores_of slots.old) place before }
 {
     if place < slots.len() {
         slots[place].before = before;

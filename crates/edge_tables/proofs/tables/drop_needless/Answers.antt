@@ -1,5 +1,5 @@
-use Rattle.std.proofs.Common.{◌≡◌, ◌<◌, ◌∙◌, length, arith, rules}
-use Rattle.edge_tables.specs.Links.{entries_of, links_of}
+use Rattle.std.proofs.Common.{◌<◌, ◌∙◌, length, arith, rules}
+use Rattle.edge_tables.specs.Links.{entries_of, befores_of}
 use Rattle.edge_tables.proofs.Tabled.{same_entries, stands_for}
 use Rattle.edge_tables.proofs.Unlinking.{before_on, before_without, thinned_on}
 use Rattle.edge_tables.proofs.Walks.{as_many_entries, link_read}
@@ -8,7 +8,7 @@ use Rattle.edge_tables.proofs.tables.drop_needless.Goals.{then-eq+then-replaces,
 
 pub slots-preserved : goal.slots-preserved
 slots-preserved c =
-    let links = links_of c.slots.slots in
+    let links = befores_of c.slots.slots in
     let here : c.slots.place < length (entries_of c.args.slots.now) =
     omega (arith, c.in-Some-get.ensures.lookup.3.0, as_many_entries c.args.slots.now) in
     let next = link_read c.slots.slots c.slots.place c.in-Some-get.slot.now
@@ -18,7 +18,7 @@ slots-preserved c =
         entries = w.set_before.ensures.entries ∙ c.slots.invariant.entries;
         before = before_without (entries_of c.args.slots.now) links _ c.slots.previous c.slots.place _
             c.slots.invariant.before here next w.set_before.ensures.links;
-        served = thinned_on (entries_of c.args.slots.now) (links_of c.args.slots.now) links _ c.args.newest
+        served = thinned_on (entries_of c.args.slots.now) (befores_of c.args.slots.now) links _ c.args.newest
             c.slots.previous c.slots.place _ c.slots.invariant.before here next w.set_before.ensures.links
             (stands_for c.args.slots.now c.slots.slots c.args.newest c.slots.place c.in-Some.first.now c.in-Some-get.slot.now
             c.slots.invariant.entries c.in-Some.ensures.lookup.3.0 c.in-Some.ensures.lookup.1

@@ -1,7 +1,7 @@
 use Rattle.std.proofs.Common.{◌≡◌, true, false, inl, inr, sym, ◌∙◌}
 use Rattle.hex_cells.specs.Sets.{has}
 use Rattle.edge_tables.proofs.Slots.{entry_there}
-use Rattle.edge_tables.proofs.Walks.{both_true, ended, goes_on, misses_one, one_false, spent, starts}
+use Rattle.edge_tables.proofs.Walks.{both_true, ended, goes_on, misses_one, one_false, spent}
 use Rattle.edge_tables.proofs.tables.Tables.common.Goals as goal
 use Rattle.edge_tables.proofs.tables.Tables.common.Goals.{then-fits, else-fits}
 

@@ -1,6 +1,6 @@
-use Rattle.std.proofs.Common.{◌≡◌, ◌<◌, ◌≤◌, ◌+◌, ◌*◌, ◌^◌, true, false, refl, sym, ◌∙◌, arith}
+use Rattle.std.proofs.Common.{◌≡◌, ◌<◌, ◌≤◌, true, false, refl, arith}
 use Rattle.edge_tables.proofs.Slots.{entry_there}
-use Rattle.edge_tables.proofs.Walks.{IsOver, amounts, ended, fewest, goes_on, some_fits, some_found, spent}
+use Rattle.edge_tables.proofs.Walks.{amounts, ended, fewest, goes_on, some_fits, some_found, spent}
 use Rattle.edge_tables.proofs.tables.Tables.least.Goals as goal
 use Rattle.edge_tables.proofs.tables.Tables.least.Goals.{then-fits+then-amount-least, else-fits}
 use Rattle.edge_tables.proofs.tables.Tables.least.Goals.{else-fits-via-then-fits+else-amount-least, else-fits-via-else-fits}

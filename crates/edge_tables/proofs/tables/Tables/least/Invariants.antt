@@ -2,7 +2,6 @@ use Rattle.std.proofs.Common.{◌≡◌, ◌+◌, ◌*◌, ◌^◌, ◌-◌, ◌
 use Rattle.hex_cells.specs.Sets.{members}
 use Rattle.edge_tables.specs.Entries.{FitsRegion}
 use Rattle.edge_tables.specs.declared.tables.EdgeEntry.{EdgeEntry}
-use Rattle.edge_tables.specs.declared.tables.Measure.{Measure}
 use Rattle.edge_tables.specs.declared.tables.Measure.TheVariants.{Cells}
 use Rattle.edge_tables.proofs.Walks.{IsOnWay}
 use Rattle.edge_tables.proofs.tables.Tables.least.Given as goal

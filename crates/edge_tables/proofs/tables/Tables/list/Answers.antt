@@ -2,7 +2,7 @@ use Rattle.std.proofs.Common.{◌≡◌, Contains, [], ◌∷◌, true, false, r
 use Rattle.std.proofs.lemmas.List.Elements.{All-push}
 use Rattle.edge_tables.specs.Entries.{FitsRegion}
 use Rattle.edge_tables.proofs.Slots.{entry_there, served_by_put, still_served}
-use Rattle.edge_tables.proofs.Walks.{ended, goes_on, listed, spent, starts}
+use Rattle.edge_tables.proofs.Walks.{ended, goes_on, listed, spent}
 use Rattle.edge_tables.proofs.tables.Tables.list.Goals as goal
 use Rattle.edge_tables.proofs.tables.Tables.list.Goals.{then-fits+in_ok-push, else-fits}
 
