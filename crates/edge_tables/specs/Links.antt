@@ -1,5 +1,6 @@
--- The links of a table: from each bucket to the newest of its places, and from a place to one before
--- it. The places that are met in a row are the bucket's chain. Only private clauses cite this.
+-- The links of a table: from each bucket to the newest of its places, and from a place to one
+-- before it. The places that are met in a row are the bucket's chain. Only private clauses cite
+-- this.
 use Rattle.std.specs.Prelude.{◌≡◌, ℕ, ◌<◌, ◌≤◌, ◌⊎◌, List, All, get_or, length, map}
 use Rattle.edge_tables.specs.Buckets.{key_bucket}
 use Rattle.edge_tables.specs.Entries.{FitsRegion}
