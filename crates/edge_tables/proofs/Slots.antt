@@ -11,7 +11,7 @@ use Rattle.edge_tables.specs.declared.tables.EdgeEntry.{EdgeEntry}
 use Rattle.edge_tables.specs.declared.tables.Slot.{Slot}
 
 -- there are as many
-as_many : (slots : List Slot) (entries : List EdgeEntry) → map (λ (s : Slot). s.entry) slots ≡ entries
+pub as_many : (slots : List Slot) (entries : List EdgeEntry) → map (λ (s : Slot). s.entry) slots ≡ entries
     → length entries ≡ length slots
 as_many slots entries view = simp length-map at (sym (ap length view))
 

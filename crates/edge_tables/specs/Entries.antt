@@ -1,7 +1,8 @@
 -- Entries: which fit a question, and which make others needless.
 use Rattle.std.specs.Prelude.{◌≡◌, ℕ, ◌*◌, ◌≤◌, ◌++◌, false, List}
 use Rattle.std.specs.List.{Any}
-use Rattle.hex_cells.specs.Sets.{has}
+use Rattle.hex_cells.specs.Sets.{has, members}
+use Rattle.hex_cells.specs.declared.board_size.TheConstants.{MOST_CELLS}
 use Rattle.conn_store.specs.Laws.{IsSubset}
 use Rattle.edge_tables.specs.declared.tables.EdgeEntry.{EdgeEntry}
 use Rattle.edge_tables.specs.declared.tables.Key.{Key}
@@ -39,3 +40,12 @@ HasStandIn entries entry = HasFit entries entry.key entry.carrier
 -- the new entries are the old ones, and then others
 abbrev pub IsPrefixOf : List EdgeEntry → List EdgeEntry → Type 0
 IsPrefixOf old new = (more : List EdgeEntry) × (new ≡ old ++ more)
+
+-- if the entry fits, one of these stands wherever it does
+abbrev pub HasStandInIfFits : Key → ℕ → List EdgeEntry → EdgeEntry → Type 0
+HasStandInIfFits key region entries entry = FitsRegion key region entry → HasStandIn entries entry
+
+-- if the entry fits, the best one has no more cells
+abbrev pub HasAsFew : Key → ℕ → EdgeEntry → EdgeEntry → Type 0
+HasAsFew key region best entry = FitsRegion key region entry
+    → members best.carrier MOST_CELLS ≤ members entry.carrier MOST_CELLS

@@ -1,2 +1,4 @@
 pub mod Entries
 pub mod Covers
+pub mod Buckets
+pub mod Links

@@ -1,6 +1,7 @@
 //! Buckets: where in a list to look for what was put there. What is found is compared.
 
 ghost use Rattle.std.specs.Prelude.{◌≡◌, ◌<◌, All, IfOk, get_or, length, slice_set};
+ghost use Rattle.edge_tables.specs.Buckets.{bucket_number, mixed_bits};
 
 use hex_cells::CellSet;
 use std::alloc::{AllocError, Global};
@@ -58,7 +59,9 @@ impl Heads {
 }
 
 /// A set's bits, mixed to 64.
-pub fn mixed(set: CellSet) -> u64 {
+pub fn mixed(set: CellSet) -> u64
+    ensures { result ≡ mixed_bits set }
+{
     let bits = set.bits();
     let low = (bits % (1 << HIGH_BITS)) as u64;
     let high = (bits >> HIGH_BITS) as u64;
@@ -67,7 +70,8 @@ pub fn mixed(set: CellSet) -> u64 {
 
 /// The bucket of a number, with a second one.
 pub fn bucket_of(first: u64, second: u64) -> usize
-    ensures { result < BUCKETS }
+    ensures value { result ≡ bucket_number first second }
+    ensures below { result < BUCKETS }
 {
     let both = first
         ^ second

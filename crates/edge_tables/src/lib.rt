@@ -15,16 +15,18 @@
 //! **What is proved.** That each call is safe and ends, and gives up only if memory ran out or a
 //! table is full. The [`Tables`] are a list, in which each entry stays at its place: a put adds its
 //! entry at the end, or nothing if it is refused or an entry of the list makes it needless. An
-//! entry that is answered is in the list, has that key, and its carrier lies inside the region; a
-//! cell that [`Tables::common`] leaves out is in no carrier of such an entry. The carriers of a
-//! cover have no cell of the region in common, and are two at least. What [`together`],
-//! [`choices_of`], [`edge_held`] and the small calls answer is exact.
+//! entry that is answered is in the list, has that key, and its carrier lies inside the region.
+//! What was put is found again: [`Tables::has`] and [`Tables::least`] tell exactly whether the list
+//! has such an entry, and none has fewer cells than the least by cells; for each [`Tables::list`]
+//! has one that stands wherever it does; and [`Tables::common`] leaves out a cell exactly if the
+//! carrier of one misses it. The carriers of a cover have no cell of the region in common, and are
+//! two at least. What [`together`], [`choices_of`], [`edge_held`] and the small calls answer is
+//! exact.
 //!
-//! **What is only tested, or not said.** That an entry which was put is found again, which would
-//! need a long proof of the links of a bucket; so a body of [`Tables::has`], [`Tables::least`],
-//! [`Tables::list`] or [`Tables::common`] that finds nothing is proved. It finds no winner, which
-//! the tests of `hex_found` refuse. By trial, and without a promise: which of several covers is
-//! chosen, and the mixed bits by which a bucket is chosen. What [`mark`] marks, and what
+//! **What is only tested, or not said.** That no entry has fewer lines than the least by lines, or
+//! than the least by cells if it has as many: they may be set anew, and one with fewer is found no
+//! more if a narrower one made it needless. By trial, and without a promise: which of several
+//! covers is chosen, and the mixed bits by which a bucket is chosen. What [`mark`] marks, and what
 //! [`Counter::lines_of`] counts: it is about the lines of a certificate, and orders entries.
 //!
 //! **Limits.** 2,000,000 entries. A full table ends a search like a spent budget.
@@ -35,7 +37,9 @@
 //!   carrier is empty: what was found at one state decides others.
 //! - A wider entry stays beside a narrower one if it has less than half as many lines: it makes the
 //!   certificate shorter.
-//! - Every loop is a `for`, so that of a proof nothing is written but two invariants.
+//! - An entry that a new one makes needless leaves its chain only when the new one is in it: a put
+//!   that is refused takes nothing away.
+//! - Every loop is a `for`, which needs no proof that it ends.
 #![tactic(auto)]
 
 mod buckets;

@@ -1,16 +1,21 @@
 //! Entries between the edges of each player, by his stones.
 
-ghost use Rattle.std.specs.Prelude.{◌≡◌, ℕ, ◌+◌, ◌*◌, ◌^◌, ◌≤◌, ◌↔◌, ◌⊎◌, ◌++◌, [], ◌∷◌};
+ghost use Rattle.std.specs.Prelude.{◌≡◌, ℕ, ◌+◌, ◌*◌, ◌^◌, ◌<◌, ◌≤◌, ◌↔◌, ◌⊎◌, ◌++◌, [], ◌∷◌};
 ghost use Rattle.std.specs.Prelude.{false, true};
 ghost use Rattle.std.specs.Prelude.{All, Contains, Err, IfErr, IfOk, IfSome, IsTrue, MatchOption};
-ghost use Rattle.std.specs.Prelude.{OnErr, OnOk, length, slice_set};
+ghost use Rattle.std.specs.Prelude.{IsSome, OnErr, OnOk, length, map, slice_set};
 ghost use Rattle.std.specs.List.{slice_get};
 ghost use Rattle.hex_cells.specs.Sets.{has, members};
 ghost use Rattle.hex_cells.specs.declared.board_size.TheConstants.{MOST_CELLS};
-ghost use Rattle.edge_tables.specs.Entries.{FitsRegion, HasFit, HasFitWithout, HasStandIn};
+ghost use Rattle.edge_tables.specs.Buckets.{key_bucket, kind_bit, player_bit};
+ghost use Rattle.edge_tables.specs.Entries.{FitsRegion, HasAsFew, HasFit, HasFitWithout};
+ghost use Rattle.edge_tables.specs.Entries.{HasStandIn, HasStandInIfFits};
 ghost use Rattle.edge_tables.specs.Entries.{IsNeedless, IsPrefixOf, Replaces};
+ghost use Rattle.edge_tables.specs.Links.{IsNotPassed, LeadBack, StandsFor, entries_of, befores_of};
+ghost use Rattle.edge_tables.specs.declared.tables.EdgeEntry.{EdgeEntry};
+ghost use Rattle.edge_tables.specs.declared.tables.Slot.{Slot};
 
-use super::buckets::{Heads, NOWHERE, bucket_of, mixed};
+use super::buckets::{Heads, bucket_of, mixed};
 use super::stops::Stop;
 use conn_store::Kind;
 use hex_cells::{Cell, CellSet, Colour};
@@ -83,19 +88,41 @@ impl Model for Tables {
     ghost Value = { List EdgeEntry };
 
     ghost view = { λ t. map (λ (s : Slot). s.entry) t.slots.items };
+
+    ghost use Rattle.edge_tables.specs.Links.{AreChains, befores_of, entries_of};
+
+    // In the chains of the buckets one stands for each of them.
+    ghost invariant = { λ t.
+        AreChains (entries_of t.slots.items) t.heads.places.items (befores_of t.slots.items) };
 }
 
 // The bucket of a key.
-fn bucket(key: &Key) -> usize {
-    let player = match key.player {
-        Colour::Black => 1u64,
-        Colour::White => 2u64,
-    };
-    let kind = match key.kind {
-        Kind::Full => 4u64,
-        Kind::Semi => 8u64,
-    };
+fn bucket(key: &Key) -> usize
+    ensures { result ≡ key_bucket key.now }
+{
+    let player = player_bit(key.player);
+    let kind = kind_bit(key.kind);
     bucket_of(mixed(key.stones), player | kind)
+}
+
+// The bit of a player.
+fn player_bit(player: Colour) -> u64
+    ensures { result ≡ player_bit player }
+{
+    match player {
+        Colour::Black => 1,
+        Colour::White => 2,
+    }
+}
+
+// The bit of a kind.
+fn kind_bit(kind: Kind) -> u64
+    ensures { result ≡ kind_bit kind }
+{
+    match kind {
+        Kind::Full => 4,
+        Kind::Semi => 8,
+    }
 }
 
 // Whether the entry has that key, and its carrier lies inside the region.
@@ -122,6 +149,9 @@ impl EdgeEntry {
         ensures lines { measure ≡ Measure.Lines → result ≡ self.now.lines }
         ensures cells { measure ≡ Measure.Cells
             → result ≡ members self.now.carrier MOST_CELLS * 2 ^ 32 + self.now.lines }
+        ensures order { measure ≡ Measure.Cells
+            → result < (members self.now.carrier MOST_CELLS + 1) * 2 ^ 32 }
+        ensures small { result < u64.MAX }
     {
         let lines = u64::from(self.lines);
         match measure {
@@ -169,9 +199,9 @@ impl Tables {
         }
     }
 
-    /// Whether there is an entry with that key inside the region.
+    /// Whether an entry with that key inside the region was put.
     pub fn has(&self, key: &Key, region: CellSet) -> bool
-        ensures { IsTrue result → HasFit self.now key.now region }
+        ensures { IsTrue result ↔ HasFit self.now key.now region }
     {
         let mut place = self.heads.newest(bucket(key));
         for _step in 0..MOST_ENTRIES {
@@ -189,8 +219,8 @@ impl Tables {
     /// The cells of the region that all carriers inside it have in common.
     pub fn common(&self, key: &Key, region: CellSet) -> CellSet
         ensures inside { (k : ℕ) → has result k ≡ true → has region k ≡ true }
-        ensures others { (k : ℕ) → has region k ≡ true → has result k ≡ false
-            → HasFitWithout self.now key.now region k }
+        ensures others { (k : ℕ) → has region k ≡ true
+            → (has result k ≡ false ↔ HasFitWithout self.now key.now region k) }
     {
         let mut cells = region;
         let mut place = self.heads.newest(bucket(key));
@@ -206,10 +236,14 @@ impl Tables {
         cells
     }
 
-    /// Of the entries with that key inside the region the one with the least of this.
+    /// Of the entries with that key inside the region, without those that were made needless, the
+    /// one with the least of this; `None` if none was put. By cells none that was put has fewer.
     pub fn least(&self, key: &Key, region: CellSet, measure: Measure) -> Option<EdgeEntry>
         ensures there { IfSome result (Contains self.now) }
         ensures fits { IfSome result (FitsRegion key.now region) }
+        ensures found { IsSome result ↔ HasFit self.now key.now region }
+        ensures fewest { measure ≡ Measure.Cells
+            → IfSome result (λ best. All (HasAsFew key.now region best) self.now) }
     {
         let mut best = None;
         let mut least = u64::MAX;
@@ -227,10 +261,13 @@ impl Tables {
         best
     }
 
-    /// The entries with that key inside the region.
+    /// The entries with that key inside the region, without those that were made needless: for each
+    /// of these one that stands wherever it does.
     pub fn list(&self, alloc: Global, key: &Key, region: CellSet) -> Result<Vec<EdgeEntry>, Stop>
         ensures there { IfOk result (λ list. All (Contains self.now) list.items) }
         ensures fits { IfOk result (λ list. All (FitsRegion key.now region) list.items) }
+        ensures all { IfOk result
+            (λ list. All (HasStandInIfFits key.now region list.items) self.now) }
         ensures refused { IfErr result (λ stop. stop ≡ Stop.Memory) }
     {
         let mut list = Vec::new(alloc);
@@ -248,7 +285,7 @@ impl Tables {
     }
 
     /// Adds an entry, unless one that is there makes it needless. Those that it makes needless keep
-    /// their places, and are found no more.
+    /// their places, and it is found in place of them.
     pub fn put(&mut self, entry: &EdgeEntry) -> Result<(), Stop>
         ensures put { OnOk result ((self.new ≡ self.old ++ entry.now ∷ [])
             ⊎ ((self.new ≡ self.old) × IsNeedless self.old entry.now)) }
@@ -258,10 +295,19 @@ impl Tables {
         if self.is_needless(entry) {
             return Ok(());
         }
-        self.drop_needless(entry);
         if MOST_ENTRIES <= self.slots.len() {
             return Err(Stop::Full);
         }
+        self.append(entry)
+    }
+
+    // Adds an entry at the end, and takes those that it makes needless out of its bucket's chain.
+    fn append(&mut self, entry: &EdgeEntry) -> Result<(), Stop>
+        requires { length self.old < MOST_ENTRIES }
+        ensures put { OnOk result (self.new ≡ self.old ++ entry.now ∷ []) }
+        ensures refused { OnErr result (self.new ≡ self.old) }
+        ensures why { IfErr result (λ stop. stop ≡ Stop.Memory) }
+    {
         let place = self.slots.len() as u32;
         let bucket = bucket(&entry.key);
         self.slots.push(Slot {
@@ -269,6 +315,7 @@ impl Tables {
             before: self.heads.newest(bucket),
         })?;
         self.heads.set_newest(bucket, place);
+        drop_needless(&mut self.slots, place as usize);
         Ok(())
     }
 
@@ -300,35 +347,46 @@ impl Tables {
         }
         false
     }
+}
 
-    // Takes those out of their bucket that this one makes needless.
-    fn drop_needless(&mut self, new: &EdgeEntry)
-        ensures { self.new ≡ self.old }
-    {
-        let bucket = bucket(&new.key);
-        let mut previous = NOWHERE;
-        let mut place = self.heads.newest(bucket);
-        'slots: for _step in 0..MOST_ENTRIES {
-            let Some(slot) = self.slots.get(place as usize) else {
-                return;
-            };
-            let next = slot.before;
-            if slot.entry.key == new.key && replaces(new, &slot.entry) {
-                self.link(bucket, previous, next);
-            } else {
-                previous = place;
-            }
-            place = next;
+// Takes those that the one at the place `newest` makes needless out of their bucket's chain.
+fn drop_needless(slots: &mut [Slot], newest: usize)
+    requires few { length slots.old ≤ MOST_ENTRIES }
+    requires back { LeadBack (entries_of slots.old) (befores_of slots.old) }
+    ensures entries { map (λ (s : Slot). s.entry) slots.new
+        ≡ map (λ (s : Slot). s.entry) slots.old }
+    ensures back { LeadBack (entries_of slots.new) (befores_of slots.new) }
+    ensures served { (k : ℕ) → IsNotPassed (entries_of slots.old) (befores_of slots.old) k
+        → IsNotPassed (entries_of slots.new) (befores_of slots.new) k
+        ⊎ StandsFor (entries_of slots.new) newest k }
+{
+    let Some(first) = slots.get(newest) else {
+        return;
+    };
+    let new = first.entry;
+    let mut previous = newest;
+    let mut place = first.before;
+    'slots: for _step in 0..MOST_ENTRIES {
+        let Some(slot) = slots.get(place as usize) else {
+            return;
+        };
+        let next = slot.before;
+        if slot.entry.key == new.key && replaces(&new, &slot.entry) {
+            set_before(slots, previous, next);
+        } else {
+            previous = place as usize;
         }
+        place = next;
     }
+}
 
-    // Makes the one at `next` follow the one at `previous`, or the first of the bucket.
-    fn link(&mut self, bucket: usize, previous: u32, next: u32)
-        ensures { self.new ≡ self.old }
-    {
-        match self.slots.get_mut(previous as usize) {
-            Some(slot) => slot.before = next,
-            None => self.heads.set_newest(bucket, next),
-        }
+// Makes the link from a place lead to another one.
+fn set_before(slots: &mut [Slot], place: usize, before: u32)
+    ensures entries { map (λ (s : Slot). s.entry) slots.new
+        ≡ map (λ (s : Slot). s.entry) slots.old }
+    ensures links { befores_of slots.new ≡ slice_set (befores_of slots.old) place before }
+{
+    if place < slots.len() {
+        slots[place].before = before;
     }
 }

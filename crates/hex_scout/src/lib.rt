@@ -18,13 +18,15 @@
 //! **What is proved.** That each call is safe and ends. That no more states are counted as entered
 //! than the budget has, that it is told to be spent only if as many were counted, and that a search
 //! gets at most one node for each. If [`Search::decide`] says who wins, an entry of its tables
-//! shows it (specs/Shown.antt). That the entry is true is not said: `hex_found` makes certificates
-//! of what was found, and these are checked. A new search knows nothing; [`Search::take`] keeps
-//! what was there, and has for each entry of the other search one that stands wherever that does.
+//! shows it (specs/Shown.antt); if an entry shows it at the call, it says so and enters nothing.
+//! That the entry is true is not said: `hex_found` makes certificates of what was found, and these
+//! are checked. A new search knows nothing; [`Search::take`] keeps what was there, and has for each
+//! entry of the other search one that stands wherever that does.
 //!
-//! **What is only tested, or not said.** That a winner is found, and how soon; that each state that
-//! is counted was entered, since none of what a search keeps is a list of them. Without a promise,
-//! by trial: in which order cells are tried ([`Order`]), and how many are looked at.
+//! **What is only tested, or not said.** That a winner is found whom no entry shows yet, and how
+//! soon; that each state that is counted was entered, since none of what a search keeps is a list
+//! of them. Without a promise, by trial: in which order cells are tried ([`Order`]), and how many
+//! are looked at.
 //!
 //! **Limits.** 1,000,000 nodes and the entries of `edge_tables`. A full table ends a search like a
 //! spent budget.
@@ -35,8 +37,7 @@
 //!   has begun finds proofs with ten times as many lines.
 //! - A node looks at half of its cells and one more, by the sum of both players' distances between
 //!   their edges. If these lose, others follow, since a cell that is answered is no reply.
-//! - Every loop is a `for`, so that of a proof nothing is written but invariants: how many nodes
-//!   there are.
+//! - Every loop is a `for`, which needs no proof that it ends.
 //!
 //! Source: focused proof-number search, which looks at a part of a node's moves, over H-search and
 //! mustplay regions (P. Henderson, B. Arneson and R. Hayward).

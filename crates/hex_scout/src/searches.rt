@@ -2,7 +2,7 @@
 //! enters it, and goes back up.
 
 ghost use Rattle.std.specs.Prelude.{◌≡◌, ◌+◌, ◌≤◌, [], All, Bool, IfErr, IfOk, None, Ok, OnOk};
-ghost use Rattle.std.specs.Prelude.{Some, length};
+ghost use Rattle.std.specs.Prelude.{IsSome, Some, length};
 ghost use Rattle.std.specs.Borrow.{sem};
 ghost use Rattle.edge_tables.specs.Entries.{HasStandIn, IsPrefixOf};
 ghost use Rattle.hex_scout.specs.Lending.{LendsTables};
@@ -94,15 +94,19 @@ impl Search {
 
     /// Goes on until it is known who wins, or so many states were entered. It gets at most one node
     /// for each of them, and that the budget is spent is told only if they are as many. An entry of
-    /// the tables shows who it says wins.
+    /// the tables shows who it says wins. If one shows that already, it is told at once: nothing is
+    /// entered, and nothing changes.
     ///
-    /// A body that gives up, or that counts states and enters none, is proved; tests tell what is
-    /// found.
+    /// A body is proved that gives up where no entry shows who wins, or that counts states and
+    /// enters none; tests tell what is found.
     pub fn decide(&mut self, alloc: Global, root: &State, budget: u64) -> Outcome
         ensures within { result.entered ≤ budget }
         ensures spent { result.by_mover ≡ Ok None → result.entered ≡ budget }
         ensures shown { (by_mover : Bool) → result.by_mover ≡ Ok (Some by_mover)
             → ShowsOutcome self.new.tables root.now by_mover }
+        ensures found { (by_mover : Bool) → ShowsOutcome self.old.tables root.now by_mover
+            → (result.entered ≡ 0) × (self.new ≡ self.old)
+            × ((told : Bool) × (result.by_mover ≡ Ok (Some told))) }
         ensures nodes { length self.new.nodes.list.items
             ≤ length self.old.nodes.list.items + result.entered }
     {
@@ -148,6 +152,8 @@ impl Search {
             → length self.new.nodes.list.items ≡ length self.old.nodes.list.items }
         ensures shown { (by_mover : Bool) → result ≡ Ok (Some by_mover)
             → ShowsOutcome self.new.tables root.now by_mover }
+        ensures found { (by_mover : Bool) → ShowsOutcome self.old.tables root.now by_mover
+            → (self.new ≡ self.old) × ((told : Bool) × (result ≡ Ok (Some told))) }
     {
         match self.go_down(alloc, root, path)? {
             Way::Known(by_mover) => Ok(Some(by_mover)),
@@ -165,6 +171,8 @@ impl Search {
         ensures count { length self.new.nodes.list.items ≡ length self.old.nodes.list.items }
         ensures shown { (by_mover : Bool) → result ≡ Ok (Way.Known by_mover)
             → ShowsOutcome self.new.tables root.now by_mover }
+        ensures found { (by_mover : Bool) → ShowsOutcome self.old.tables root.now by_mover
+            → (self.new ≡ self.old) × ((told : Bool) × (result ≡ Ok (Way.Known told))) }
     {
         'rounds: for _round in 0..MOST_NODES {
             if let Some(by_mover) = self.known(root) {
@@ -181,8 +189,10 @@ impl Search {
 
     // Whether the player to move wins, if an entry says so.
     fn known(&self, state: &State) -> Option<bool>
-        ensures { (by_mover : Bool) → result ≡ Some by_mover
+        ensures shown { (by_mover : Bool) → result ≡ Some by_mover
             → ShowsOutcome self.now.tables state.now by_mover }
+        ensures found { (by_mover : Bool) → ShowsOutcome self.now.tables state.now by_mover
+            → IsSome result }
     {
         let empties = state.board.empties();
         if self.tables.has(&state.own_key(Kind::Semi), empties) {
