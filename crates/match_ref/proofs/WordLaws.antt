@@ -1,5 +1,5 @@
 -- Words that are well formed, and what is found in them.
-use Rattle.std.proofs.Common.{◌≡◌, ◌∙◌, ◌↔◌, refl, sym, subst, List, Option, Some, None, IfSome}
+use Rattle.std.proofs.Common.{◌≡◌, ◌∙◌, ◌↔◌, refl, sym, subst, Bool, List, Option, Some, None, IfSome}
 use Rattle.std.proofs.Common.{arith}
 use Rattle.clap.specs.Words.{first_value, found_of}
 use Rattle.clap.specs.declared.parser.matches.ArgMatches.{ArgMatches}
@@ -60,17 +60,6 @@ side_in_range value is_b s h seed below = record {
   words = number_in_range _ _ _ _ h.words_is;
   expand = number_in_range _ _ _ _ h.expand_is;
   weight = (number_in_range _ _ _ _ h.weight_is).1;
-}
-
-in_range : (value : TextBytes → Option TextBytes) (p n e k : TextBytes) (s : Side)
-    → IsSaidSide value p n e k s → IsSide s
-side_in_range value p n e k s h seed below = record {
-  workers = (omega arith, omega arith);
-  playouts = number_in_range _ _ _ (value p) h.playouts_is;
-  seed = below;
-  words = number_in_range _ _ _ (value n) h.words_is;
-  expand = number_in_range _ _ _ (value e) h.expand_is;
-  weight = (number_in_range _ _ _ (value k) h.weight_is).1;
 }
 
 in_range : (value : TextBytes → Option TextBytes) (w : MatchWords) → AreMatchWords value w
