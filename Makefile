@@ -11,10 +11,12 @@
 
 # The programs, each with its crate; and what stands beside them in Python. Each has a page in man/ and three completions.
 programs = hexd hexmatch
-wrappers = hexd-board hexd-report hexd-gtp
+wrappers = hexd-board hexd-report hexd-solve hexd-gtp
 
 PREFIX = /usr/local
 bindir = $(PREFIX)/bin
+# Where the programs lie themselves: in bindir stand launchers, which say what is wrong with a word (bin/installed).
+libdir = $(PREFIX)/lib/hexd
 datadir = $(PREFIX)/share
 mandir = $(datadir)/man
 docdir = $(datadir)/doc/hexd
@@ -29,15 +31,17 @@ folders = board examples gtp openings
 scripts = $(wildcard examples/*.py openings/check openings/draw.py openings/find.py openings/positions.py \
     tools/second_checker.py)
 texts = $(filter-out %/test.py $(scripts),$(wildcard $(folders:%=%/*.md) $(folders:%=%/*.py) \
-    board/page/* board/report.html openings/Makefile openings/*.tsv tools/programs.py tools/python.bash))
+    board/page/* board/report.html board/certificate.html board/settings.json openings/Makefile openings/*.tsv tools/programs.py \
+    tools/python.bash tools/words.bash tools/progress.bash tools/options.txt man/*.help))
 others = $(wildcard examples/certificates/* openings/*.xz openings/pictures/*)
 # Documents name one another by their places here, so they keep these.
 pages = $(wildcard *.md docs/*/*.md crates/README.md web/README.md tools/README.md tools/*/README.md release/NOTICES)
 pictures = $(wildcard docs/*/pictures/* release/hexd.html)
 
 # Each installed file as KIND:PLACE-HERE:PLACE-THERE, and each link as link:WHERE-IT-LEADS:PLACE-THERE.
-files = $(foreach name,$(programs),program:$(name):$(bindir)/$(name) \
-        link:$(bindir)/$(name):$(share)/bin/$(name)) \
+files = $(foreach name,$(programs),program:$(name):$(libdir)/$(name) \
+        link:$(libdir)/$(name):$(share)/bin/$(name) \
+        wrapper:bin/installed:$(bindir)/$(name)) \
     $(foreach name,$(wrappers),wrapper:bin/$(name):$(bindir)/$(name)) \
     $(foreach name,$(programs) $(wrappers),file:man/$(name).6:$(mandir)/man6/$(name).6 \
         file:completions/$(name).bash:$(bashdir)/$(name) \
@@ -49,9 +53,11 @@ files = $(foreach name,$(programs),program:$(name):$(bindir)/$(name) \
     $(foreach path,$(pages),text:$(path):$(docdir)/$(path)) \
     $(foreach path,$(pictures),file:$(path):$(docdir)/$(path)) \
     $(foreach name,$(folders),link:$(share)/$(name):$(docdir)/$(name)) \
-    link:$(docdir)/docs:$(share)/docs
+    link:$(docdir)/docs:$(share)/docs \
+    entry:board/hexd-board.desktop:$(datadir)/applications/hexd-board.desktop \
+    file:board/page/icon.svg:$(datadir)/icons/hicolor/scalable/apps/hexd-board.svg
 
-# What is installed is started without a path. Links and wrappers lead from their folder, so that all may be moved together.
+# What is installed is started without a path, but from a menu. Links and wrappers lead from their folder, so that all may be moved together.
 unpathed = sed -E 's,(^|[^[:alnum:]_/.$$])bin/(hexd|hexmatch),\1\2,g'
 from = $$(realpath -sm --relative-to="$(dir $1)" "$2")
 install_program = install -D -m 755 "$$(bin/start --where $1)" "$(DESTDIR)$2"
@@ -59,6 +65,7 @@ install_file = install -D -m 644 $1 "$(DESTDIR)$2"
 install_text = $(unpathed) $1 | install -D -m 644 /dev/stdin "$(DESTDIR)$2"
 install_script = $(unpathed) $1 | install -D -m 755 /dev/stdin "$(DESTDIR)$2"
 install_wrapper = sed "s,^share=.*,share=\$$bin/$(call from,$2,$(share))," $1 | install -D -m 755 /dev/stdin "$(DESTDIR)$2"
+install_entry = sed 's,^Exec=,&$(bindir)/,' $1 | install -D -m 644 /dev/stdin "$(DESTDIR)$2"
 install_link = mkdir -p "$(DESTDIR)$(dir $2)" && ln -sfn "$(call from,$2,$1)" "$(DESTDIR)$2"
 
 # The two commands of a file; the empty line at the end of each ends the command.
@@ -100,7 +107,7 @@ install: build
 # What Python has kept of its programs goes too. Folders that others use stay.
 uninstall:
 	$(foreach file,$(files),$(call remove_one,$(file)))
-	for folder in "$(DESTDIR)$(share)" "$(DESTDIR)$(docdir)"; do \
+	for folder in "$(DESTDIR)$(share)" "$(DESTDIR)$(docdir)" "$(DESTDIR)$(libdir)"; do \
 	    find "$$folder" -depth \( -path '*/__pycache__/*.pyc' -o -type d -empty \) -delete 2>/dev/null; \
 	done || true
 

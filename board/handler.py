@@ -10,14 +10,15 @@ from http.server import BaseHTTPRequestHandler, ThreadingHTTPServer
 from pathlib import Path
 
 import hexd
-import records
 import settings
+import tokens
+import troubles
 from sessions import Refusal
 
 # This machine alone, and each of its addresses.
 HERE, EVERY = "127.0.0.1", ("0.0.0.0", "::")
 MOST_BYTES = 1_048_576
-# Who was sent a link meets this.
+# Who was sent a link meets this, and a page of an earlier start whose token isn't kept.
 NO_TOKEN = "the token is missing: open the address that bin/hexd-board printed, and paste a link into its page"
 # What is left of a refused body is read up to here, so that the client reads the refusal before the connection closes.
 MOST_DROPPED_BYTES = 16 * MOST_BYTES
@@ -56,21 +57,12 @@ def taken_line(body):
     return line
 
 
-def taken_playouts(body):
-    """How many playouts a new session's searches have, from the body of a request; None where it doesn't say."""
+def taken_options(body):
+    """The options of a new session's hexd, from the body of a request; None where it doesn't say."""
     try:
-        return settings.number(*settings.RANGES["playouts"])(body.decode("latin-1")) if body else None
-    except settings.argparse.ArgumentTypeError as why:
-        raise Refusal(400, f"playouts: {why}") from None
-
-
-def converted(body):
-    """The bytes of a record in hexd's form, with what was changed."""
-    try:
-        record = records.read(body)
-    except records.Refused as why:
+        return settings.asked_of(body.decode("latin-1")) if body else None
+    except ValueError as why:
         raise Refusal(400, str(why)) from None
-    return json.dumps({"record": record.text, "notes": record.notes})
 
 
 class Handler(BaseHTTPRequestHandler):
@@ -79,6 +71,8 @@ class Handler(BaseHTTPRequestHandler):
     protocol_version = "HTTP/1.1"
     server_version = "hexd-board"
     sys_version = ""
+    # What Python's own part refuses, as an unknown method, is a line too.
+    error_message_format, error_content_type = "%(message)s\n", "text/plain; charset=utf-8"
     timeout = QUIET_SECONDS
 
     def do_GET(self):
@@ -93,12 +87,21 @@ class Handler(BaseHTTPRequestHandler):
     def serve(self, method):
         """Answers by a method, which has the path behind the token; a Refusal is answered by its status and line."""
         self.left = 0
+        # Until it is known that the request is the page's and where its body ends, nothing behind it is read as another one.
+        self.close_connection, persists = True, self.close_connection
         try:
-            self.admit()
             self.left = self.length()
+            self.admit()
+            self.close_connection = persists
             self.answer(200, *method(*self.path.split("?")[0].split("/")[2:]))
         except Refusal as refusal:
             self.answer(refusal.status, refusal.why + "\n", TEXT)
+        except (ConnectionError, TimeoutError):
+            raise
+        except Exception as fault:
+            name = type(fault).__name__
+            self.answer(500, f"the server has a fault, {name}, of which its terminal says more. {troubles.KEPT}\n", TEXT)
+            raise
         self.drop_rest()
 
     def admit(self):
@@ -113,11 +116,10 @@ class Handler(BaseHTTPRequestHandler):
             raise Refusal(403, NO_TOKEN)
 
     def length(self):
-        given = self.headers.get("Content-Length", "0")
-        if "Transfer-Encoding" in self.headers or not re.fullmatch("[0-9]{1,18}", given):
-            self.close_connection = True
+        given = self.headers.get_all("Content-Length", ["0"])
+        if "Transfer-Encoding" in self.headers or len(given) > 1 or not re.fullmatch("[0-9]{1,18}", given[0]):
             raise Refusal(411, "a request tells the length of its body")
-        return int(given)
+        return int(given[0])
 
     def body(self):
         if self.left > MOST_BYTES:
@@ -131,7 +133,7 @@ class Handler(BaseHTTPRequestHandler):
                 file = PAGE / (name or "index.html")
                 return file.read_bytes(), KINDS[file.suffix]
             case ("settings",):
-                return json.dumps(self.server.sessions.given), JSON
+                return json.dumps(self.server.sessions.told()), JSON
             case ("openings", opening) if found := re.fullmatch("([1-9]|1[01])(?:-([a-k][1-9][0-9]?))?", opening):
                 size, vertex, openings = int(found[1]), found[2], self.server.openings
                 return json.dumps(openings.winner(size, vertex) if vertex else openings.winners(size)), JSON
@@ -141,11 +143,9 @@ class Handler(BaseHTTPRequestHandler):
         sessions, body = self.server.sessions, self.body()
         match path:
             case ("session",):
-                return sessions.make(taken_playouts(body)), TEXT
+                return sessions.make(taken_options(body)), TEXT
             case ("room",):
                 return sessions.make_room(), TEXT
-            case ("convert",):
-                return converted(body), JSON
             case ("session", name, "htp"):
                 return sessions.ask(name, taken_line(body)), TEXT
             case ("session", name, "record"):
@@ -194,11 +194,12 @@ class Server(ThreadingHTTPServer):
     daemon_threads = True
 
     def __init__(self, address, port, sessions, openings):
-        self.token = secrets.token_urlsafe(16)
         self.sessions, self.openings = sessions, openings
         self.files = {file.name for file in PAGE.iterdir() if file.suffix in KINDS}
         self.address_family, _, _, _, place = socket.getaddrinfo(address, port, type=socket.SOCK_STREAM)[0]
         super().__init__(place[:2], Handler)
+        # Whose line isn't encrypted, or whose port comes by chance, has a new one at each start.
+        self.token = tokens.kept(port) if port and self.is_local() else tokens.made()
 
     def server_bind(self):
         # The one of HTTPServer asks the system for the host's full name, which may take long.

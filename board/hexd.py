@@ -180,17 +180,29 @@ class Solved:
         first, _, certificate = text.partition("\n")
         return cls(first, certificate)
 
+    @property
+    def winner(self):
+        """Who wins, "black" or "white"; None if it isn't known."""
+        word, *rest = self.first.split(" ")
+        return {"won": rest[:1], "over": rest[:1], "too": rest[1:2]}.get(word, [None])[0]
+
 
 class Solver:
     """One process `hexd solve`, which can be ended while it works."""
 
-    def __init__(self, budget=None, program=PROGRAM):
-        command = [str(program), "solve", *([] if budget is None else ["--budget", str(budget)])]
+    def __init__(self, budget=None, program=PROGRAM, words=()):
+        command = [str(program), "solve", *([] if budget is None else ["--budget", str(budget)]), *words]
         self.process = subprocess.Popen(command, stdin=subprocess.PIPE, stdout=subprocess.PIPE, stderr=subprocess.PIPE)
 
-    def answer(self, record):
-        """All that it says of the position of a record's bytes. EngineEnded where it ends without a word on it."""
-        said, errors = self.process.communicate(record)
+    def answer(self, record, seconds=None):
+        """All that it says of the position of a record's bytes. EngineEnded where it ends without a word on it, or takes
+        longer than this."""
+        try:
+            said, errors = self.process.communicate(record, seconds)
+        except subprocess.TimeoutExpired:
+            self.kill()
+            self.process.communicate()
+            raise EngineEnded(f"hexd solve took longer than {seconds} seconds") from None
         if self.process.returncode not in (0, 1):
             raise EngineEnded(why_ended(self.process.returncode, errors.decode(errors="replace")), self.process.returncode)
         return said.decode()
@@ -199,6 +211,6 @@ class Solver:
         self.process.kill()
 
 
-def solve(record, budget=None, program=PROGRAM):
+def solve(record, budget=None, program=PROGRAM, seconds=None):
     """Who wins the position of a record's bytes: Solved. EngineEnded as with Solver."""
-    return Solved.of(Solver(budget, program).answer(record))
+    return Solved.of(Solver(budget, program).answer(record, seconds))

@@ -3,8 +3,9 @@
     read(b"(;SZ[5];B[C3];W[ce];B[resign])")     # Record: .text, .main, .notes; Refused with why not
 
 What another program writes otherwise is put right here: a byte order mark or other text before the record, other character
-sets, capitals, `swap`, cells in two letters (`ce` for c5), passes, and White as the first to move where Black swaps. All of
-the tree is kept, with its properties. This file knows what a move is called, and no rule: what is legal hexd says.
+sets, capitals, `swap`, cells in two letters (`ce` for c5), passes, stones that are set behind the root, and White as the first
+to move where Black swaps. All of the tree is kept, with its properties. This file knows what a move is called, and no rule:
+what is legal hexd says. page/records.js does the same for the page; both are tested by tests/table.py.
 """
 
 import re
@@ -17,6 +18,10 @@ SIZES = range(1, len(LETTERS) + 1)
 SWAP = "swap-pieces"
 COLOURS = {"B": "Black", "W": "White"}
 OTHER = {"B": "W", "W": "B"}
+# What names a colour: the result, and who is to move.
+OF_COLOURS = {"RE", "PL"}
+# What sets stones, and what takes them away.
+STONES, AWAY = ("AB", "AW"), "AE"
 # What belongs to a player, and changes sides with him.
 OF_PLAYERS = {"PB": "PW", "PW": "PB", "BR": "WR", "WR": "BR", "BT": "WT", "WT": "BT", "BL": "WL", "WL": "BL"}
 
@@ -76,12 +81,31 @@ class Reader:
     def turn_players(self, properties):
         """The properties with those of the players exchanged."""
         result = {OF_PLAYERS.get(name, name): values for name, values in properties.items()}
-        if "RE" in result:
-            result["RE"] = [OTHER.get(value[:1], value[:1]) + value[1:] for value in result["RE"]]
+        for name in OF_COLOURS & result.keys():
+            result[name] = [OTHER.get(value[:1], value[:1]) + value[1:] for value in result[name]]
         return result
+
+    def gather_start(self):
+        """Stones that are set or taken away behind the root, before the first move and the first side line, are the start's."""
+        node = self.root
+        while not node.moves() and len(node.children) == 1:
+            node = node.children[0]
+            self.set_up(node)
+
+    def set_up(self, node):
+        """Does to the stones of the start what a node does, which has it no longer."""
+        of_root = self.root.properties
+        for name in (*STONES, AWAY):
+            for value in node.properties.pop(name, []):
+                for colour in STONES:
+                    others = of_root.get(colour, [])
+                    of_root[colour] = [other for other in others if cell_of(other, False) != cell_of(value, False)]
+                if name != AWAY:
+                    of_root[name].append(value)
 
     def convert(self):
         """Puts each node into hexd's form. A side line is left out where it can't be; Refused in the main line."""
+        self.gather_start()
         left = [(self.root, 0, True)]
         while left:
             node, number, is_main = left.pop()
@@ -89,6 +113,7 @@ class Reader:
             kept = []
             for at, child in enumerate(node.children):
                 try:
+                    child = self.stones_as_moves(child, number + 1)
                     self.probe(child, number + 1)
                     kept.append((child, number, is_main and at == 0))
                 except Refused as why:
@@ -98,13 +123,22 @@ class Reader:
             node.children = [child for child, _, _ in kept]
             left += reversed(kept)
 
+    def stones_as_moves(self, node, number):
+        """A node that sets stones in the midst of a game as a row of moves, which needn't come in turn, and then the node."""
+        if AWAY in node.properties:
+            raise Refused(f"stones are taken away at move {number}, which hexd can't do")
+        stones = [(name[1], value) for name in STONES for value in node.properties.pop(name, [])]
+        if stones:
+            self.notes.append(f"Stones are set at move {number}: they are played, one after another.")
+        for colour, value in reversed(stones):
+            node = Node({colour: [value]}, [node])
+        return node
+
     def probe(self, node, number):
         """Refused where a node can't be put into hexd's form."""
         moves = node.moves()
         if len(moves) > 1:
             raise Refused(f"node {number} has two moves")
-        if any(name in node.properties for name in ("AB", "AW", "AE")):
-            raise Refused(f"stones are set or taken away at move {number}, and hexd takes those of the start alone")
         if moves:
             self.move_of(*moves[0], number)
 
@@ -131,9 +165,9 @@ class Reader:
                 if move is not None and move != "swap-sides":
                     result[OTHER[name] if self.crossed else name] = [move]
                 self.note_move(name, move, number)
-            elif name in ("AB", "AW"):
+            elif name in STONES and values:
                 result["A" + OTHER[name[1]] if self.crossed else name] = [self.stone_of(value) for value in values]
-            elif name != "CA":
+            elif name not in ("CA", *STONES):
                 result[name] = values
         node.properties = result
         return len(found)

@@ -1,31 +1,33 @@
 #!/usr/bin/env python3
-"""Writes a report of a game: one HTML file with each position of a record and what hexd says of it.
+"""Writes a report of a game: one HTML file with each position of a record and what hexd says of it; or draws a certificate.
 
     report.py [--playouts N] [--weight N] [--workers N] GAME.sgf >GAME.html
+    report.py WIN.cert >WIN.html
 
-GAME.sgf may be `-`, standard input. For each position hexd is asked for a move, its plan, its search and its certificate,
+The file's name may be `-`, standard input. For each position hexd is asked for a move, its plan, its search and its certificate,
 which a second process checks; then the record's own move is played. On standard error stands how far it is, and why it ends.
 """
 
-import base64
-import hashlib
 import html
-import json
 import re
-import string
 import sys
 import tempfile
 from pathlib import Path
 
+import certificate
 import hexd
+import onefile
 import records
 import settings
 from openings import Openings
 
-PAGE = Path(__file__).resolve().with_name("page")
-TEMPLATE = PAGE.parent / "report.html"
+FRAME = "report.html"
 SCRIPTS = ["elements", "cells", "board", "certificate", "thought", "proofs", "plot", "report"]
 CHECK_SECONDS = 120
+# A position that the solver decides within this time counts as decided.
+SOLVE_SECONDS = 1
+# More than it enters in that time.
+MOST_POSITIONS = 10_000_000
 
 
 def steps_of(record):
@@ -74,12 +76,26 @@ class Reporter:
         self.ask("undo")
         return said
 
+    def solved(self, mover):
+        """Who wins by the solver with this player to move, 'b' or 'w'; None if it doesn't say so in a short time."""
+        record = self.ask("printsgf")
+        _, steps = steps_of(record)
+        # For the solver whoever did not move last is to move, and Black at the start.
+        if mover != ("w" if steps and steps[-1]["colour"] == "b" else "b"):
+            return None
+        try:
+            winner = hexd.solve(f"{record}\n".encode(), MOST_POSITIONS, self.program, SOLVE_SECONDS).winner
+        except hexd.EngineEnded:
+            return None
+        return winner and winner[0]
+
     def position(self, mover, step, last):
         winner, stones = self.ask("winner"), stones_of(self.ask("showboard"))
         return {
             "stones": stones,
             "winner": None if winner == "none" else winner[0],
             "thought": self.thought(mover, self.may_swap(mover, stones)),
+            "solved": self.solved(mover),
             "step": step,
             # After a swap the one stone that lies there is the last one.
             "last": stones[0][0] if last == records.SWAP else last,
@@ -106,43 +122,30 @@ class Reporter:
         return {"name": name, "size": record.size, "positions": positions, "opening": opening and opening[0], "notes": notes}
 
 
-def hashed(text):
-    """How a policy names an inline text that may run, or be a style."""
-    return f"'sha256-{base64.b64encode(hashlib.sha256(text.encode()).digest()).decode()}'"
-
-
 def page_of(report, given):
-    """The file, which needs nothing else: style and scripts are in it, and its policy lets nothing else run."""
-    style = (PAGE / "board.css").read_text()
-    script = "".join((PAGE / f"{name}.js").read_text() for name in SCRIPTS)
+    """The file, which needs nothing else."""
     moves = len(report["positions"]) - 1
     summary = f"{moves} moves on size {report['size']}, each position looked at by hexd with {settings.told(given)}"
-    return string.Template(TEMPLATE.read_text()).substitute(
-        policy=f"default-src 'none'; style-src {hashed(style)}; script-src {hashed(script)}",
-        title=html.escape(report["name"]),
-        summary=html.escape(summary),
-        notes="".join(f"<p>{html.escape(note)}</p>" for note in report["notes"]),
-        style=style,
-        # In a script element only `</` and `<!--` would end or change the text.
-        game=json.dumps(report, separators=(",", ":")).replace("<", "\\u003c"),
-        script=script,
-    )
+    notes = "".join(f"<p>{html.escape(note)}</p>" for note in report["notes"])
+    return onefile.page_of(FRAME, SCRIPTS, report, title=html.escape(report["name"]), summary=html.escape(summary), notes=notes)
 
 
 def wanted(words):
     parser = settings.Parser(prog="hexd-report", description="Writes a report of a game as HTML on standard output.")
     settings.add_options(parser)
     parser.add_argument("--program", type=Path, default=hexd.PROGRAM, help="the program in place of the built one")
-    parser.add_argument("record", metavar="GAME.sgf", help="the record of the game; -: standard input")
+    parser.add_argument("record", metavar="GAME.sgf", help="the record of a game, or a certificate; -: standard input")
     return parser.parse_args(words)
 
 
 def made(options):
-    """The page of a record; records.Refused, EngineEnded or OSError where there is none."""
+    """The page of a record or a certificate; records.Refused, EngineEnded or OSError where there is none."""
     is_standard = options.record == "-"
     content = sys.stdin.buffer.read() if is_standard else Path(options.record).read_bytes()
-    record, given, program = records.read(content), settings.given_of(options), options.program.resolve()
-    name = "Standard input" if is_standard else Path(options.record).name
+    name, program = "Standard input" if is_standard else Path(options.record).name, options.program.resolve()
+    if certificate.is_one(content):
+        return certificate.page_of(content, name, program, CHECK_SECONDS)
+    record, given = records.read(content), settings.given_of(options)
     with tempfile.TemporaryDirectory(prefix="hexd-report-") as folder:
         with hexd.Engine([program, "htp", *settings.words_of(given)], folder) as engine:
             return page_of(Reporter(engine, program).report(record, name), given)

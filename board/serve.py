@@ -48,14 +48,15 @@ def wanted(words):
     """The words of the command line: our own, and behind `--` those for hexd."""
     place = words.index("--") if "--" in words else len(words)
     parser = settings.Parser(prog="hexd-board", usage="hexd-board [OPTIONS] [-- OPTIONS OF HEXD]")
-    settings.add_options(parser)
+    settings.add_options(parser, {"workers": settings.BEST["workers"]})
     parser.add_argument("--open", action="store_true", help="open the page in a browser")
     port = f"the port (0: any); {PORT} or the next free one by default"
     parser.add_argument("--port", type=settings.number(0, 65_535), help=port)
     parser.add_argument("--listen", metavar="ADDRESS", default=HERE, help=f"whose port; {HERE}, this machine, by default")
     parser.add_argument("--program", type=Path, default=hexd.PROGRAM, help="the program in place of the built one")
     options = parser.parse_args(words[:place])
-    options.given, options.others = split(parser, words[place + 1 :], settings.given_of(options))
+    given, options.others = split(parser, words[place + 1 :], settings.given_of(options))
+    options.given = settings.Given.of(given)
     return options
 
 
@@ -93,7 +94,7 @@ def sweep(sessions, ended):
 def tell(server, options):
     """Prints the address, and what there is to say of it; opens it where that is wanted."""
     print(server.address(), flush=True)
-    print(f"hexd searches {settings.told(options.given)}. Ctrl-C ends the server.", file=sys.stderr)
+    print(f"hexd {settings.told_of_board(options.given)}. Ctrl-C ends the server.", file=sys.stderr)
     if not server.is_local():
         print(WARNING, file=sys.stderr)
     if options.open:
@@ -120,7 +121,7 @@ def serve(options, server, sessions):
 
 def main():
     options = wanted(sys.argv[1:])
-    if not is_fit(options.program, [*settings.words_of(options.given), *options.others]):
+    if not is_fit(options.program, Sessions(options.program, options.given, options.others, "").words(None)):
         return 2
     for number in (signal.SIGINT, signal.SIGTERM, signal.SIGHUP):
         if number != signal.SIGHUP or signal.getsignal(number) != signal.SIG_IGN:

@@ -8,6 +8,7 @@ from dataclasses import dataclass, field
 from pathlib import Path
 
 import settings
+import troubles
 from hexd import Engine, EngineEnded, Solver, check
 
 # A page that is opened again and again must not fill the machine with processes.
@@ -41,19 +42,26 @@ class Session:
 
 
 class Sessions:
-    """The sessions that are open, and of others why they ended. `given` are hexd's settings, `others` its further words."""
+    """The sessions that are open, and of others why they ended. `given` are settings.Given, `others` hexd's further words."""
 
     def __init__(self, program, given, others, folder):
         self.program, self.given, self.others, self.folder = program, given, others, Path(folder)
         self.open, self.reasons = {}, {}
         self.turn = threading.Lock()
 
-    def words(self, playouts):
-        """The words for a process whose searches have so many playouts; without a number as many as the settings say."""
-        given = self.given if playouts is None else {**self.given, "playouts": playouts}
-        return [*settings.words_of(given), *self.others]
+    def words(self, options):
+        """The words for a process with these options; without any as the server was started, or as strong as by default."""
+        given = self.given.usual if options is None else options
+        words = settings.words_of({**given, "workers": self.given.workers})
+        # A word of the user's own stands in the place of one of the page's.
+        own = {word.split("=")[0] for word in self.others if word.startswith("--")}
+        return [*(word for word in words if word.split("=")[0] not in own), *self.others]
 
-    def make(self, playouts=None):
+    def told(self):
+        """What the page is told of the settings: the table, how the server was started, and the workers, as JSON takes it."""
+        return {"table": settings.TABLE, "started": self.given.started, "workers": self.given.workers}
+
+    def make(self, options=None):
         """Starts a process and gives its session's name."""
         with self.turn:
             if len(self.open) >= MOST_SESSIONS:
@@ -61,12 +69,20 @@ class Sessions:
             name = secrets.token_hex(8)
             folder = self.folder / name
             try:
-                folder.mkdir()
-                engine = Engine([self.program, "htp", *self.words(playouts)], folder)
+                # Who cleans up temporary files may have taken the server's own folder.
+                folder.mkdir(parents=True)
             except OSError as fault:
-                raise Refusal(500, f"hexd could not be started: {fault}") from None
+                raise Refusal(500, troubles.told(f"the server's folder {self.folder} can't be written", fault)) from None
+            try:
+                engine = Engine([self.program, "htp", *self.words(options)], folder)
+            except OSError as fault:
+                folder.rmdir()
+                raise self._not_started(fault) from None
             self.open[name] = Session(engine, folder)
             return name
+
+    def _not_started(self, fault):
+        return Refusal(500, troubles.told(f"the program {self.program} can't be started", fault))
 
     def ask(self, name, line):
         """The answer to one line, whole. A line for the same session waits until the one before is answered."""
@@ -81,8 +97,10 @@ class Sessions:
         self._find(name)
         try:
             return check(certificate, self.program, CHECK_SECONDS)
-        except (EngineEnded, OSError) as fault:
-            raise Refusal(500, str(fault)) from None
+        except OSError as fault:
+            raise self._not_started(fault) from None
+        except EngineEnded as fault:
+            raise Refusal(500, f"the certificate is not checked: {fault}. {troubles.KEPT} Try again.") from None
 
     def solve(self, name, record, budget):
         """What `hexd solve` says of the position of a record, in a process that ends with the session."""
@@ -95,9 +113,11 @@ class Sessions:
                 solver.kill()
             return solver.answer(record).rstrip("\n")
         except EngineEnded as ended:
-            raise Refusal(410 if name in self.reasons else 500, self.reasons.get(name, str(ended))) from None
+            if name in self.reasons:
+                raise Refusal(410, self.reasons[name]) from None
+            raise Refusal(500, f"this position is not solved: {ended}. {troubles.KEPT} Try again.") from None
         except OSError as fault:
-            raise Refusal(500, f"hexd could not be started: {fault}") from None
+            raise self._not_started(fault) from None
         finally:
             session.used = time.monotonic()
             session.solvers.clear()
@@ -149,7 +169,11 @@ class Sessions:
         except EngineEnded as ended:
             self.end(name, str(ended))
             raise Refusal(410, self.reasons.get(name, "the session was ended")) from None
+        except FileNotFoundError:
+            # The record has no place there, and another session gets another folder.
+            self.end(name, "its folder was taken away")
+            raise Refusal(410, self.reasons.get(name, "the session was ended")) from None
         except OSError as fault:
-            raise Refusal(500, f"the session's folder can't be used: {fault}") from None
+            raise Refusal(500, troubles.told(f"hexd can't be given the game by a file of {session.folder}", fault)) from None
         finally:
             session.used = time.monotonic()

@@ -1,11 +1,21 @@
-"""The words with which board and report start hexd: its best play where nothing else is said."""
+"""The words with which board and report start hexd, and the table of its strengths, settings.json."""
 
 import argparse
+import json
 import os
+from dataclasses import dataclass
+from pathlib import Path
 
+# How strongly hexd plays for the page, the board and hexd-gtp: `strengths` by their names, of which `solve` goes by the size of
+# the board; how numbers are chosen for a clock; and an opening near even for each size.
+TABLE = json.loads(Path(__file__).resolve().with_name("settings.json").read_text())
 # The ranges of hexd's own options of these names.
 RANGES = {"playouts": (1, 1_000_000), "weight": (0, 1_024), "workers": (1, 64)}
+# And of those that a session of the page may ask for.
+ASKED = {**RANGES, "look": (0, 1_000_000), "solve": (0, 10_000_000)}
+del ASKED["workers"]
 MOST_WORKERS = 4
+LARGEST = 11
 BEST = {"playouts": 100_000, "weight": 0, "workers": min(MOST_WORKERS, len(os.sched_getaffinity(0)))}
 HELP = {
     "playouts": "how many playouts a search makes",
@@ -35,15 +45,60 @@ def number(low, high):
     return read
 
 
-def add_options(parser):
-    """Adds the options to a parser of words."""
+def add_options(parser, usual=BEST):
+    """Adds the options to a parser of words, with these defaults; None for an option without one."""
     for name, (low, high) in RANGES.items():
-        text = f"{HELP[name]}, {low:,} to {high:,}; {BEST[name]:,} by default"
-        parser.add_argument(f"--{name}", metavar="N", type=number(low, high), default=BEST[name], help=text)
+        default = usual.get(name)
+        text = f"{HELP[name]}, {low:,} to {high:,}" + ("" if default is None else f"; {default:,} by default")
+        parser.add_argument(f"--{name}", metavar="N", type=number(low, high), default=default, help=text)
 
 
 def given_of(options):
     return {name: getattr(options, name) for name in RANGES}
+
+
+@dataclass(frozen=True)
+class Given:
+    """How the board's server was started: playouts and weight, if they were given, and the workers."""
+
+    started: dict | None
+    workers: int
+
+    @classmethod
+    def of(cls, given):
+        """From the options that were given, None for those that weren't."""
+        asked = {name: given[name] for name in ("playouts", "weight") if given[name] is not None}
+        started = {name: asked.get(name, BEST[name]) for name in ("playouts", "weight")}
+        return cls(started if asked else None, given["workers"])
+
+    @property
+    def usual(self):
+        """The options of a session of which nothing is said."""
+        return self.started or strength_options(TABLE["default"], LARGEST)
+
+
+def strength_options(name, size):
+    """hexd's options for a strength of the table on a size of board: those of weight, playouts, look and solve that it has."""
+    given = TABLE["strengths"][name]
+    if "solve" not in given:
+        return given
+    sizes = sorted(map(int, given["solve"]))
+    least = next((it for it in sizes if it >= size), sizes[-1])
+    return {**given, "solve": given["solve"][str(least)]}
+
+
+def asked_of(text):
+    """The options that a text asks for, as `look=400 playouts=1000`; a ValueError says which word is wrong."""
+    asked = {}
+    for word in text.split():
+        name, _, value = word.partition("=")
+        if name not in ASKED or name in asked:
+            raise ValueError(f"{word[:40]!r} is no option of a session")
+        try:
+            asked[name] = number(*ASKED[name])(value)
+        except argparse.ArgumentTypeError as why:
+            raise ValueError(f"{name}: {why}") from None
+    return asked
 
 
 def words_of(given):
@@ -55,3 +110,10 @@ def told(given):
     """The settings as a sentence's end."""
     workers = "1 worker" if given["workers"] == 1 else f"{given['workers']} workers"
     return f"{given['playouts']:,} playouts a move, weight {given['weight']}, {workers}"
+
+
+def told_of_board(given):
+    """How the board's hexd plays, as a sentence's end."""
+    if given.started:
+        return f"searches with {told({**given.started, 'workers': given.workers})}"
+    return f"plays at the strength '{TABLE['default']}', or another one that the page chooses"

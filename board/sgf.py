@@ -63,8 +63,8 @@ def tree_of(text):
                 node.children.append(made)
             node, last = made, None
         elif token[0] != "[":
-            # Older records have small letters in the names, which don't count.
-            last = re.sub("[a-z]", "", token)
+            # Small letters of a name don't count, as older records have them, unless all are small.
+            last = re.sub("[a-z]", "", token) or token.upper()
         elif node and last:
             node.properties.setdefault(last, []).append(token[1:-1])
             has_property = True

@@ -27,7 +27,7 @@ sys.path.insert(0, str(HERE))
 # Debian's packages are for this Python, which need not be the first on the path.
 SYSTEM_PYTHON = "/usr/bin/python3"
 # Longer than any run takes; then something hangs.
-LIMIT_SECONDS = 900
+LIMIT_SECONDS = 2_700
 
 
 def missing():
@@ -61,16 +61,17 @@ def open_standard_streams():
 
 def tests(options):
     """The cases, and what is skipped and why."""
-    from tests import of_ends, of_report, of_server
+    from tests import of_conversion, of_ends, of_report, of_server, of_settings, of_solve
 
     loader, why = unittest.TestLoader(), missing()
-    suites = [loader.loadTestsFromModule(module) for module in (of_server, of_ends)]
+    suites = [loader.loadTestsFromModule(module) for module in (of_server, of_ends, of_conversion, of_settings, of_solve)]
     suites.append(loader.loadTestsFromTestCase(of_report.Reports))
     if why is None:
-        from tests import of_games, of_records, of_thoughts, of_windows, pages
+        from tests import of_choices, of_games, of_hands, of_records, of_thoughts, of_windows, pages
 
         pages.Pages.shots = options.shots
-        suites += [loader.loadTestsFromModule(module) for module in (of_games, of_thoughts, of_records, of_windows)]
+        modules = (of_games, of_hands, of_choices, of_thoughts, of_records, of_windows)
+        suites += [loader.loadTestsFromModule(module) for module in modules]
         suites.append(loader.loadTestsFromTestCase(of_report.in_browser(options.shots)))
     return unittest.TestSuite(chosen(suites, options.names)), why
 
@@ -149,7 +150,7 @@ def main():
     # All that is written lies here, also what a killed server leaves.
     folder = tempfile.mkdtemp(prefix="hexd-tests-")
     atexit.register(shutil.rmtree, folder, ignore_errors=True)
-    os.environ["TMPDIR"] = tempfile.tempdir = folder
+    os.environ["TMPDIR"] = tempfile.tempdir = os.environ["XDG_STATE_HOME"] = folder
     return run(options)
 
 

@@ -1,6 +1,9 @@
-# Completion of hexd-gtp's words for bash: each option of hexd once. A number is the user's own.
+# Completion of hexd-gtp's words for bash: each option once. tools/options writes it.
 _hexd_gtp() {
-    local options=' --size --workers --playouts --seed --words --expand --weight --hsearch --steps --budget --trace '
+    local modes=''
+    # All options, and those that take a value.
+    local options=' --size --workers --playouts --seed --words --expand --weight --hsearch --solve --look --steps --budget --trace --strength --seconds --swap --resign '
+    local valued=' --size --workers --playouts --seed --words --expand --weight --hsearch --solve --look --steps --budget --trace --strength --seconds --swap '
     local at word name=${COMP_WORDS[COMP_CWORD-1]}
     # bash cuts `--name=value` in three at the sign.
     [ "$name" = = ] && name=${COMP_WORDS[COMP_CWORD-2]}
@@ -8,12 +11,18 @@ _hexd_gtp() {
         --hsearch)
             mapfile -t COMPREPLY < <(compgen -W 'on off' -- "$2")
             return ;;
+        --strength)
+            mapfile -t COMPREPLY < <(compgen -W 'quick normal strong' -- "$2")
+            return ;;
+        --swap)
+            mapfile -t COMPREPLY < <(compgen -W 'on off' -- "$2")
+            return ;;
         --trace)
             compopt -o filenames 2>/dev/null
             mapfile -t COMPREPLY < <(compgen -f -- "$2")
             return ;;
         --?*)
-            return ;;
+            [[ $valued != *" $name "* ]] || return ;;
     esac
     for ((at = 1; at < COMP_CWORD; at++)); do
         word=${COMP_WORDS[at]}
@@ -22,10 +31,14 @@ _hexd_gtp() {
             --) options= ;;
             --*)
                 options=${options/" $word "/ }
-                [ "${COMP_WORDS[at+1]}" = = ] && at=$((at + 1))
-                at=$((at + 1)) ;;
+                if [[ $valued == *" $word "* ]]; then
+                    # The option's value, which is no mode.
+                    [ "${COMP_WORDS[at+1]}" = = ] && at=$((at + 1))
+                    at=$((at + 1))
+                fi ;;
+            *) modes= ;;
         esac
     done
-    mapfile -t COMPREPLY < <(compgen -W "$options" -- "$2")
+    mapfile -t COMPREPLY < <(compgen -W "$modes $options" -- "$2")
 }
 complete -F _hexd_gtp hexd-gtp

@@ -1,6 +1,9 @@
-# Completion of hexd-report's words for bash: each option once, and a record. A number is the user's own.
+# Completion of hexd-report's words for bash: each option once, and a file. tools/options writes it.
 _hexd_report() {
+    local modes=''
+    # All options, and those that take a value.
     local options=' --playouts --weight --workers --program --help '
+    local valued=' --playouts --weight --workers --program '
     local at word name=${COMP_WORDS[COMP_CWORD-1]}
     # bash cuts `--name=value` in three at the sign.
     [ "$name" = = ] && name=${COMP_WORDS[COMP_CWORD-2]}
@@ -9,12 +12,23 @@ _hexd_report() {
             compopt -o filenames 2>/dev/null
             mapfile -t COMPREPLY < <(compgen -f -- "$2")
             return ;;
-        --playouts | --weight | --workers)
-            return ;;
+        --?*)
+            [[ $valued != *" $name "* ]] || return ;;
     esac
     for ((at = 1; at < COMP_CWORD; at++)); do
         word=${COMP_WORDS[at]}
-        [[ $word != --* ]] || options=${options/" $word "/ }
+        case $word in
+            # Behind it no word is an option.
+            --) options= ;;
+            --*)
+                options=${options/" $word "/ }
+                if [[ $valued == *" $word "* ]]; then
+                    # The option's value, which is no mode.
+                    [ "${COMP_WORDS[at+1]}" = = ] && at=$((at + 1))
+                    at=$((at + 1))
+                fi ;;
+            *) modes= ;;
+        esac
     done
     compopt -o filenames 2>/dev/null
     mapfile -t COMPREPLY < <(compgen -W "$options" -- "$2"; [[ $2 == -* ]] || compgen -f -- "$2")

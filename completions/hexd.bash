@@ -1,7 +1,9 @@
-# Completion of hexd's words for bash: one mode, and each option once. A number is the user's own.
+# Completion of hexd's words for bash: one mode, and each option once. tools/options writes it.
 _hexd() {
     local modes='htp check migrate audit sim bench solve'
-    local options=' --size --workers --playouts --seed --words --expand --weight --hsearch --steps --budget --trace '
+    # All options, and those that take a value.
+    local options=' --size --workers --playouts --seed --words --expand --weight --hsearch --solve --look --steps --budget --trace '
+    local valued=' --size --workers --playouts --seed --words --expand --weight --hsearch --solve --look --steps --budget --trace '
     local at word name=${COMP_WORDS[COMP_CWORD-1]}
     # bash cuts `--name=value` in three at the sign.
     [ "$name" = = ] && name=${COMP_WORDS[COMP_CWORD-2]}
@@ -14,18 +16,20 @@ _hexd() {
             mapfile -t COMPREPLY < <(compgen -f -- "$2")
             return ;;
         --?*)
-            return ;;
+            [[ $valued != *" $name "* ]] || return ;;
     esac
     for ((at = 1; at < COMP_CWORD; at++)); do
         word=${COMP_WORDS[at]}
         case $word in
-            # Behind it every word is positional.
+            # Behind it no word is an option.
             --) options= ;;
             --*)
                 options=${options/" $word "/ }
-                # The option's value, which is no mode.
-                [ "${COMP_WORDS[at+1]}" = = ] && at=$((at + 1))
-                at=$((at + 1)) ;;
+                if [[ $valued == *" $word "* ]]; then
+                    # The option's value, which is no mode.
+                    [ "${COMP_WORDS[at+1]}" = = ] && at=$((at + 1))
+                    at=$((at + 1))
+                fi ;;
             *) modes= ;;
         esac
     done

@@ -1,4 +1,4 @@
-# Completion of hexd's words for fish: one mode, and each option. A number is the user's own.
+# Completion of hexd's words for fish: one mode, and each option once. tools/options writes it.
 set -l modes htp check migrate audit sim bench solve
 complete -c hexd -f
 complete -c hexd -n "not __fish_seen_subcommand_from $modes" -a htp -d 'Play a session of the Hex Text Protocol'
@@ -8,14 +8,16 @@ complete -c hexd -n "not __fish_seen_subcommand_from $modes" -a audit -d 'Audit 
 complete -c hexd -n "not __fish_seen_subcommand_from $modes" -a sim -d 'Search by workers that step in turn'
 complete -c hexd -n "not __fish_seen_subcommand_from $modes" -a bench -d 'Search a position of its own'
 complete -c hexd -n "not __fish_seen_subcommand_from $modes" -a solve -d 'Tell who wins the position of a record'
-complete -c hexd -l size -x -d 'Cells on a side of the board: 1 to 11'
-complete -c hexd -l workers -x -d 'Workers that search one tree: 1 to 64'
-complete -c hexd -l playouts -x -d 'Playouts of a search: 1 to 1,000,000'
-complete -c hexd -l seed -x -d 'Seed of the first search: 0 to 18,446,744,073,709,551,615'
-complete -c hexd -l words -x -d 'Words that the blocks of a tree have: 1,024 to 16,777,216'
-complete -c hexd -l expand -x -d 'Visits from which on a node gets children: 1 to 1,000'
-complete -c hexd -l weight -x -d 'How much exploration weighs in a score: 0 to 1,024'
-complete -c hexd -l hsearch -x -a 'on off' -d 'Whether a genmove looks for connections first: on or off'
-complete -c hexd -l steps -x -d 'Steps of the schedule that sim draws: 0 to 1,000,000'
-complete -c hexd -l budget -x -d 'Positions that the solver may enter: 1 to 18,446,744,073,709,551,615'
-complete -c hexd -l trace -r -F -d 'File to which searches add their trees: a text of at least one byte'
+complete -c hexd -l size -x -d 'The size of the first board in htp, and of the board in sim and bench: 1 to 11'
+complete -c hexd -l workers -x -d 'How many workers search one tree, in sim in turn, otherwise each in a thread: 1 to 64'
+complete -c hexd -l playouts -x -d 'How many playouts a search makes: 1 to 1,000,000'
+complete -c hexd -l seed -x -d 'The seed of the first search; also of the schedule of sim and the position of bench: 0 to 18,446,744,073,709,551,615'
+complete -c hexd -l words -x -d 'How many words of 8 bytes the blocks of a search\'s tree have at most: 1,024 to 16,777,216'
+complete -c hexd -l expand -x -d 'How many visits a node of the tree needs to get children: 1 to 1,000'
+complete -c hexd -l weight -x -d 'How much exploration weighs in a score, in 256th parts: 0 to 1,024'
+complete -c hexd -l hsearch -x -a 'on off' -d 'Whether a genmove looks for connections first, and whether solve does: on or off'
+complete -c hexd -l solve -x -d 'How many positions a genmove, or bench, may enter to look for a certificate: 0 to 10,000,000'
+complete -c hexd -l look -x -d 'How many nodes the look-ahead of a genmove, or of bench, judges: 0 to 1,000,000'
+complete -c hexd -l steps -x -d 'In sim how many steps of the schedule are drawn: 0 to 1,000,000'
+complete -c hexd -l budget -x -d 'In solve how many positions each search of the solver may enter: 1 to 18,446,744,073,709,551,615'
+complete -c hexd -l trace -r -F -d 'The name of a file, to which each search adds the trace of its tree: a text of at least one byte'

@@ -4,13 +4,17 @@ There is no rule of the game here. gtp/filter.py hands hexd all else."""
 import os
 import re
 
-from engine import Engine, Refused, time_of
+from engine import Refused, time_of
 from loading import load_other
+from moves import SWAP, Mover
 
 LARGEST_SEED = 2**64 - 1
 COLOURS = {b"b": b"B", b"black": b"B", b"w": b"W", b"white": b"W"}
 OTHER = {b"B": b"W", b"W": b"B"}
 WINS = {b"black": b"B+", b"white": b"W+"}
+# If one of these succeeds, the game goes on, and no player has resigned; with some another one begins.
+CHANGES = (b"boardsize", b"clear_board", b"genmove", b"loadsgf", b"play")
+BEGINS = (b"boardsize", b"clear_board")
 # The form of HexGui and GoGui: how an answer is shown, the menu's entry, the command. `plist` is cells in a row, `pspairs`
 # each of them with a word, and `varc` a move; `%c` is the colour to move.
 ANALYZE_COMMANDS = b"""\
@@ -44,14 +48,18 @@ def needs_forms(args, *forms):
     needs(len(args) == len(forms) and all(map(re.fullmatch, forms, args)))
 
 
-class Session:
+class Session(Mover):
     """hexd, and who has resigned. Each command answers the text of its success, or None if the line is hexd's."""
 
-    def __init__(self, words):
-        self.words, self.hexd = words, Engine(words)
-        self.resigned = None
-        # The processor's time of those that were ended.
-        self.spent = 0.0
+    resigned = None
+
+    def changed(self, name):
+        """After a command of this name that has succeeded the game goes on, or another one begins."""
+        if name in CHANGES:
+            self.resigned = None
+        if name in BEGINS:
+            self.clock.begin()
+            self.pace = None
 
     def is_over(self):
         return self.resigned is not None or self.hexd.ask(b"winner") != b"none"
@@ -61,16 +69,37 @@ class Session:
         needs_forms(request.args, rb"-?[0-9]+(\.[0-9]+)?")
         return b""
 
+    def needs_time(self):
+        """Who keeps time must be able to start another hexd."""
+        if self.words.strength and self.has_trace():
+            raise Refused(b"cannot keep time beside --trace")
+
     def time_settings(self, request):
-        """A search has as many playouts as --playouts says, however long that takes."""
-        needs_forms(request.args, rb"[0-9]+", rb"[0-9]+", rb"[0-9]+")
+        """Main time, and behind it periods for so many moves each; without moves a period says that there is no limit."""
+        needs_forms(request.args, *[rb"[0-9]{1,10}"] * 3)
+        self.needs_time()
+        self.clock.set(*map(int, request.args))
         return b""
 
     def kgs_time_settings(self, request):
-        """As time_settings."""
-        numbers = KGS_NUMBERS.get(request.args[0].lower()) if request.args else None
-        needs(numbers is not None)
-        needs_forms(request.args[1:], *[rb"[0-9]+"] * numbers)
+        """The same, by the name of a system."""
+        kind = request.args[0].lower() if request.args else None
+        needs(kind in KGS_NUMBERS)
+        needs_forms(request.args[1:], *[rb"[0-9]{1,10}"] * KGS_NUMBERS[kind])
+        self.needs_time()
+        numbers = [int(word) for word in request.args[1:]]
+        if kind == b"byoyomi":
+            # Its last number is how often the period comes again.
+            self.clock.set(numbers[0], numbers[1], 1, each=True)
+        else:
+            self.clock.set(*(numbers or [0, 1, 0]))
+        return b""
+
+    def time_left(self, request):
+        """Seconds of a player's main time if the moves are 0, else of a period for so many moves."""
+        needs_forms(request.args, rb"\w+", rb"[0-9]{1,10}", rb"[0-9]{1,10}")
+        needs(is_colour(request.args[0]))
+        self.clock.tell(COLOURS[request.args[0].lower()], int(request.args[1]), int(request.args[2]))
         return b""
 
     def cputime(self, request):
@@ -78,12 +107,28 @@ class Session:
         needs(not request.args)
         return b"%.2f" % (self.spent + time_of(self.hexd.process))
 
+    def genmove(self, request):
+        """A move by the strength or the clock, or a swap, an opening near even, or `resign`."""
+        if len(request.args) != 1 or not is_colour(request.args[0]) or self.is_over():
+            return None
+        colour = COLOURS[request.args[0].lower()]
+        move = self.moved(colour)
+        if self.words.resigns and self.is_by_search and self.is_lost():
+            self.hexd.ask(b"undo")
+            self.resigned = colour
+            return b"resign"
+        return move
+
     def reg_genmove(self, request):
         """A genmove that is taken back."""
         needs(len(request.args) == 1 and is_colour(request.args[0]))
-        cell = self.hexd.ask(b"genmove %s" % request.args[0])
-        self.hexd.ask(b"undo")
-        return cell
+        move, resigned = self.genmove(request), self.resigned
+        if move is None:
+            move = self.hexd.ask(b"genmove %s" % request.args[0])
+        self.resigned = resigned if move != b"resign" else None
+        if move != b"resign":
+            self.hexd.ask(b"undo")
+        return move
 
     def search_visits(self, request):
         """The cells that were searched, each with its visits."""
@@ -97,67 +142,52 @@ class Session:
         rows = [line.split() for line in self.hexd.ask(b"mustplay").splitlines()]
         return b" ".join(next(row[1:] for row in rows if row[0] in (b"win", b"allowed")))
 
-    def time_left(self, request):
-        needs_forms(request.args, rb"\w+", rb"[0-9]+", rb"[0-9]+")
-        needs(is_colour(request.args[0]))
-        return b""
-
     def set_random_seed(self, request):
         """hexd takes its seed at its start: so another one is started, which loads the record of the game."""
         needs(len(request.args) == 1 and is_number(request.args[0], LARGEST_SEED))
-        if any(word.partition("=")[0] == "--trace" for word in self.words):
-            # The new one would empty the file at its first trace.
+        if self.has_trace():
             raise Refused(b"cannot set the seed beside --trace")
-        record = os.memfd_create("game")
-        os.write(record, self.hexd.ask(b"printsgf"))
-        last, self.hexd = self.hexd, Engine(self.with_seed(request.args[0].decode()))
+        last, self.seed = self.seed, request.args[0].decode()
         try:
-            self.load(record)
+            self.renew()
         except Refused:
-            last, self.hexd = self.hexd, last
+            self.seed = last
             raise
-        finally:
-            self.spent += time_of(last.process)
-            last.close()
         return b""
-
-    def with_seed(self, seed):
-        """The words for hexd with this seed in place of theirs."""
-        words = list(self.words)
-        if "--seed" in words:
-            at = words.index("--seed")
-            del words[at : at + 2]
-        return [word for word in words if not word.startswith("--seed=")] + ["--seed", seed]
-
-    def load(self, file):
-        """Has hexd load an open file, and closes it."""
-        try:
-            self.hexd.ask(b"loadsgf /proc/%d/fd/%d" % (os.getpid(), file))
-        finally:
-            os.close(file)
 
     def loadsgf(self, request):
         """hexd takes a name without a space, and its own form: with spaces it gets the number of an open file, and a record
-        of another form it gets in its own."""
+        of another form it gets in its own. With a move's number the position before that move is left."""
         if not request.args:
             return None
+        name, move = request.rest, None
+        found = re.fullmatch(rb"(.*\S)\s+([1-9][0-9]{0,9})", name)
+        if found and not os.path.lexists(name):
+            name, move = found[1], int(found[2])
+        self.load_file(name)
+        if move is not None:
+            # The first node is the start, and each step is one.
+            for _ in range(self.hexd.ask(b"printsgf").count(b";") - move):
+                self.hexd.ask(b"undo")
+        self.changed(request.name)
+        return b""
+
+    def load_file(self, name):
         try:
             # By its path alone: hexd looks first whether it is a regular file, and opens no other.
-            file = os.open(request.rest, os.O_PATH)
+            file = os.open(name, os.O_PATH)
         except FileNotFoundError:
             raise Refused(b"cannot load file") from None
         except OSError:
             raise Refused(b"read fault") from None
         try:
-            self.hexd.ask(b"loadsgf /proc/%d/fd/%d" % (os.getpid(), file))
+            self.hexd.load(file)
         except Refused as refused:
             if refused.args[0] != b"cannot load file":
                 raise
             load_other(self, file)
         finally:
             os.close(file)
-        self.resigned = None
-        return b""
 
     def play(self, request):
         """A swap by its short name, and `resign`, of which hexd's game knows nothing."""
@@ -165,7 +195,7 @@ class Session:
             return None
         colour, move = COLOURS[request.args[0].lower()], request.args[1].lower()
         if move == b"swap":
-            self.hexd.ask(b"play %s swap-pieces" % colour)
+            self.hexd.ask(b"play %s %s" % (colour, SWAP))
             self.resigned = None
             return b""
         if move != b"resign":
@@ -201,17 +231,8 @@ class Session:
             row, *cells = line.split()
             moves += [b"%c%s" % (ord("a") + column, row) for column, cell in enumerate(cells) if cell == b"."]
         if COLOURS[(request.args or [b"w"])[0].lower()] == b"W" and self.may_swap():
-            moves.append(b"swap-pieces")
+            moves.append(SWAP)
         return b" ".join(moves)
-
-    def may_swap(self):
-        """Whether hexd takes a swap, which is taken back at once."""
-        try:
-            self.hexd.ask(b"play w swap-pieces")
-        except Refused:
-            return False
-        self.hexd.ask(b"undo")
-        return True
 
     def analyze_commands(self, request):
         needs(not request.args)
@@ -237,6 +258,7 @@ OWN = {
     b"all_legal_moves": Session.all_legal_moves,
     b"cputime": Session.cputime,
     b"final_score": Session.final_score,
+    b"genmove": Session.genmove,
     b"gogui-analyze_commands": Session.analyze_commands,
     b"help": Session.help,
     b"hexgui-analyze_commands": Session.analyze_commands,

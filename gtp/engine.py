@@ -1,13 +1,29 @@
 """What a line of a driver asks, and a session of hexd of which commands are asked."""
 
+import contextlib
 import os
+import signal
+import subprocess
 from pathlib import Path
 
-from programs import Hexd, HexdEnded
+from programs import HEXD, Hexd, HexdEnded
+
+# The status of what ends before the program begins, as in tools/program.bash.
+NOT_STARTED = 125
+# What isn't hexd has so many seconds to end once its input has ended.
+GRACE = 5
 
 
 class Refused(Exception):
     """A command's failure, with its message."""
+
+
+class NotStarted(Exception):
+    """hexd can't be started, or what was started isn't hexd; with a line that says why, and a status."""
+
+    def __init__(self, why, status):
+        super().__init__(f"hexd can't be started: {HEXD}: {why}")
+        self.status = status
 
 
 class Request:
@@ -19,7 +35,16 @@ class Request:
 
 
 class Engine(Hexd):
-    """A session of hexd, of which commands are asked."""
+    """A session of hexd, of which commands are asked. Its processes end with the filter (end_all)."""
+
+    running = set()
+
+    def __init__(self, words):
+        try:
+            super().__init__(words)
+        except OSError as fault:
+            raise NotStarted(fault.strerror, NOT_STARTED) from None
+        self.running.add(self.process)
 
     def ask(self, command):
         """The text of a command's success."""
@@ -30,6 +55,57 @@ class Engine(Hexd):
         if answer[:1] == b"?":
             raise Refused(answer[2:-2])
         return answer[2:-2]
+
+    def tell(self, command):
+        """The same, with None for a failure."""
+        try:
+            return self.ask(command)
+        except Refused:
+            return None
+
+    def greet(self):
+        """Hears that it is hexd."""
+        try:
+            name = self.ask(b"name")
+        except (HexdEnded, Refused):
+            name = None
+        if name == b"hexd":
+            return
+        # It may have ended already, with the question unread.
+        with contextlib.suppress(BrokenPipeError):
+            self.process.stdin.close()
+        try:
+            self.process.wait(GRACE)
+        except subprocess.TimeoutExpired:
+            self.process.kill()
+        status = self.close()
+        raise NotStarted(f"it doesn't answer as hexd does, and ends with status {status}", status or NOT_STARTED)
+
+    def load(self, file):
+        """Has it load an open file."""
+        self.ask(b"loadsgf /proc/%d/fd/%d" % (os.getpid(), file))
+
+    def load_text(self, record):
+        """Has it load the bytes of a record, which stand in memory alone."""
+        file = os.memfd_create("game")
+        try:
+            os.write(file, record)
+            self.load(file)
+        finally:
+            os.close(file)
+
+    def close(self):
+        status = super().close()
+        self.running.discard(self.process)
+        return status
+
+
+def end_all(number, _):
+    """Ends each hexd at once, whatever it does, and the filter by this signal."""
+    for process in list(Engine.running):
+        process.kill()
+    signal.signal(number, signal.SIG_DFL)
+    os.kill(os.getpid(), number)
 
 
 def time_of(process):

@@ -14,18 +14,18 @@ import signal
 import sys
 from pathlib import Path
 
-sys.path.insert(0, str(Path(__file__).resolve().parent.parent / "tools"))
+ROOT = Path(__file__).resolve().parent.parent
+sys.path[1:1] = [str(ROOT / "tools"), str(ROOT / "board")]
 from commands import OWN, Session, is_number
-from engine import Refused, Request
+from engine import NotStarted, Refused, Request, end_all
 from programs import HexdEnded
+from words import Words
 
 # hexd answers a line of more bytes `line too long`, whatever it holds.
 LONGEST_LINE = 4096
 LARGEST_ID = 2**31 - 1
 # The bytes that hexd drops from a line: all control bytes but the tab.
 CONTROL = bytes(byte for byte in (*range(32), 127) if byte != 9)
-# If one of these succeeds, the game goes on, and no player has resigned.
-CHANGES = (b"boardsize", b"clear_board", b"genmove", b"loadsgf", b"play")
 READ_FAULT, WRITE_FAULT = 3, 4
 
 
@@ -61,7 +61,7 @@ class Filter:
     """A driver's input, and the session that answers it."""
 
     def __init__(self, words):
-        self.session = Session(words)
+        self.session = Session(Words.of(words))
         # What was read and is not yet handed over.
         self.kept = b""
 
@@ -110,8 +110,8 @@ class Filter:
         if not request and not is_long:
             return b""
         answer = self.session.hexd.answer()
-        if request and request.name in CHANGES and answer[:1] == b"=":
-            self.session.resigned = None
+        if request and answer[:1] == b"=":
+            self.session.changed(request.name)
         return answer
 
     def run(self):
@@ -141,7 +141,12 @@ def hold_closed_streams():
 
 
 if __name__ == "__main__":
-    # Ctrl-C ends it as it ends hexd, which stands in the same group.
-    signal.signal(signal.SIGINT, signal.SIG_DFL)
+    for number in (signal.SIGINT, signal.SIGTERM, signal.SIGHUP):
+        if signal.getsignal(number) != signal.SIG_IGN:
+            signal.signal(number, end_all)
     hold_closed_streams()
-    sys.exit(Filter(sys.argv[1:]).run())
+    try:
+        sys.exit(Filter(sys.argv[1:]).run())
+    except NotStarted as fault:
+        os.write(2, f"hexd-gtp: {fault}\n".encode())
+        sys.exit(fault.status)

@@ -2,12 +2,10 @@
 
 import os
 import stat
-import sys
 from pathlib import Path
 
 from engine import Engine, Refused
 
-sys.path.append(str(Path(__file__).resolve().parent.parent / "board"))
 import records
 
 # hexd reads no longer record.
@@ -27,17 +25,15 @@ def load_other(session, file):
         raise Refused(b"read fault") from None
     if not record.is_whole:
         raise Refused(b"cannot load file: it breaks off in the record")
-    text = os.memfd_create("game")
-    os.write(text, record.main.encode())
     try:
-        session.load(text)
+        session.hexd.load_text(record.main.encode())
     except Refused:
-        raise Refused(b"cannot load file: " + why_refused(session.words, record).encode()) from None
+        raise Refused(b"cannot load file: " + why_refused(record).encode()) from None
 
 
-def why_refused(words, record):
+def why_refused(record):
     """Which move of a record hexd refuses, and why. Another hexd is asked, so that the game stays."""
-    other = Engine(words)
+    other = Engine([])
 
     def ask(line):
         try:

@@ -5,10 +5,14 @@ ends. It says nothing if all is as it has to be."""
 import os
 import re
 import resource
+import signal
 import subprocess
 import sys
 import tempfile
+import time
 from pathlib import Path
+
+import test_moves
 
 BIN = Path(__file__).resolve().parent.parent / "bin"
 WITH, WITHOUT = [str(BIN / "hexd-gtp")], [str(BIN / "hexd"), "htp"]
@@ -93,6 +97,16 @@ ROWS = [
     ("loadsgf {folder}/wrong.sgf", "? cannot load file: move 2 is illegal: White b2, for there is a stone on it\n\n"),
     ("loadsgf {folder}", "? read fault\n\n"),
     ("printsgf", "= (;FF[4]GM[11]SZ[2];B[a2])\n\n"),
+    # Up to the position before a move.
+    ("loadsgf {folder}/other.sgf 3", "= \n\n"),
+    ("printsgf", "= (;FF[4]GM[11]SZ[3];B[b1];W[swap-pieces])\n\n"),
+    ("loadsgf {folder}/a  game.sgf 1", "= \n\n"),
+    ("printsgf", "= (;FF[4]GM[11]SZ[2])\n\n"),
+    ("loadsgf {folder}/other.sgf 9", "= \n\n"),
+    ("printsgf", "= (;FF[4]GM[11]SZ[3];B[b1];W[swap-pieces];B[c3])\n\n"),
+    ("loadsgf {folder}/other.sgf 0", "? cannot load file\n\n"),
+    ("loadsgf {folder}/game 2", "= \n\n"),
+    ("printsgf", "= (;FF[4]GM[11]SZ[1];B[a1])\n\n"),
     ("loadsgf {folder}/other.sgf", "= \n\n"),
     ("printsgf", "= (;FF[4]GM[11]SZ[3];B[b1];W[swap-pieces];B[c3])\n\n"),
     ("loadsgf {folder}/a  game.sgf", "= \n\n"),
@@ -104,7 +118,7 @@ ROWS = [
 ]
 
 GAME = "".join(f"{2 * n} genmove b\n{2 * n + 1} genmove w\nmustplay\nsearch-report\nwincert\n" for n in range(13))
-# Sessions that have the same answers, status and lines on standard error with the filter and without it.
+# Sessions that have the same answers, status and lines on standard error with the filter and without it, but for swaps.
 SAME = [
     (GAME.encode() + b"printsgf\n", ["--size", "5", "--playouts", "500"]),
     (GAME.encode() + b"printsgf\n", ["--size", "4", "--playouts", "500", "--hsearch", "off", "--seed=7"]),
@@ -115,8 +129,10 @@ SAME = [
     (b"name\nversion", SMALL),
     (b"name\n" + b"x" * 5000, SMALL),
     (b"", SMALL),
-    (b"name\n", ["--size", "12"]),
 ]
+NO_SWAP = ["--swap", "off"]
+# What ends it from outside.
+ENDING = (signal.SIGTERM, signal.SIGHUP, signal.SIGINT)
 
 
 def run(program, words, given):
@@ -124,9 +140,16 @@ def run(program, words, given):
     return done.returncode, done.stdout, done.stderr
 
 
+def heed_signals():
+    for number in ENDING:
+        signal.signal(number, signal.SIG_DFL)
+
+
 def start(words, **streams):
     """A session of the filter whose input is left open, and the id of its hexd, which has answered once."""
-    process = subprocess.Popen(WITH + words, stdin=subprocess.PIPE, stdout=subprocess.PIPE, **streams)
+    # Who runs the tests by nohup, or behind a shell's `&`, has some signals ignored, which a program would go on with.
+    pipe = subprocess.PIPE
+    process = subprocess.Popen(WITH + words, stdin=pipe, stdout=pipe, preexec_fn=heed_signals, **streams)
     process.stdin.write(b"name\n")
     process.stdin.flush()
     process.stdout.read(len("= hexd\n\n"))
@@ -138,6 +161,7 @@ def rows_fault():
     """What differs in the session of rows."""
     with tempfile.TemporaryDirectory() as folder:
         Path(folder, "a  game.sgf").write_text("(;GM[11]SZ[2];B[a2])")
+        Path(folder, "game 2").write_text("(;GM[11]SZ[1];B[a1])")
         Path(folder, "a text").write_text("no record")
         Path(folder, "cut.sgf").write_text("(;SZ[3];B[a1];W[b2")
         Path(folder, "large.sgf").write_text("(;SZ[14];B[a1])")
@@ -156,7 +180,7 @@ def rows_fault():
 def same_faults():
     """The sessions that differ with the filter and without it."""
     for given, words in SAME:
-        with_it, without = run(WITH, words, given), run(WITHOUT, words, given)
+        with_it, without = run(WITH, words + NO_SWAP, given), run(WITHOUT, words, given)
         if with_it != without:
             yield f"{given[:60]} {words}: with it {with_it}, without {without}"
 
@@ -199,7 +223,7 @@ def lists_fault():
 def search_fault():
     """Whether a genmove that is taken back is the one that is played, with its search in the forms of a menu."""
     words = ["--size", "5", "--playouts", "300", "--hsearch", "off"]
-    _, got, _ = run(WITH, words, b"reg_genmove b\nsearch-visits\nmustplay-cells\nprintsgf\ncputime\n")
+    _, got, _ = run(WITH, words + NO_SWAP, b"reg_genmove b\nsearch-visits\nmustplay-cells\nprintsgf\ncputime\n")
     _, want, _ = run(WITHOUT, words, b"genmove b\nsearch-report\n")
     (move, visits, cells, record, spent), (same, report) = (
         [answer[2:].decode() for answer in text.split(b"\n\n")[:-1]] for text in (got, want)
@@ -236,12 +260,53 @@ def ending_faults():
     if process.wait(LIMIT) != 0 or Path(f"/proc/{hexd}").exists():
         yield f"a driver that went: status {process.returncode}"
     with open("/dev/zero", "rb") as zeros, open("/dev/full", "wb") as full:
-        done = subprocess.run(WITH, stdin=zeros, capture_output=True, timeout=LIMIT)
+        done = subprocess.run(WITH + SMALL, stdin=zeros, capture_output=True, timeout=LIMIT)
         if (done.returncode, done.stdout, done.stderr) != (6, b"", b"hexd: input too long\n"):
             yield f"a line without end: {done}"
-        done = subprocess.run(WITH, input=b"name\n", stdout=full, timeout=LIMIT)
+        done = subprocess.run(WITH + SMALL, input=b"name\n", stdout=full, timeout=LIMIT)
         if done.returncode != 4:
             yield f"a full disk: status {done.returncode}"
+
+
+def is_running(process):
+    try:
+        return Path(f"/proc/{process}/stat").read_text().rpartition(")")[2].split()[0] != "Z"
+    except OSError:
+        return False
+
+
+def signal_faults():
+    """Whether a signal ends hexd too, at once: one that is stopped answers nothing, and meets no end of its input."""
+    for number in ENDING:
+        process, hexd = start(SMALL)
+        os.kill(hexd, signal.SIGSTOP)
+        process.stdin.write(b"name\n")
+        process.stdin.flush()
+        process.send_signal(number)
+        status, end = process.wait(LIMIT), time.monotonic() + LIMIT / 10
+        while is_running(hexd) and time.monotonic() < end:
+            time.sleep(0.01)
+        if status != -number or is_running(hexd):
+            yield f"signal {number}: status {status}, and hexd {'goes on' if is_running(hexd) else 'has ended'}"
+            os.kill(hexd, signal.SIGKILL)
+
+
+# What HEXD names, with what is said of it and the status.
+WRONG_PROGRAMS = [
+    ("/nowhere/hexd", "No such file or directory", 125),
+    ("/", "Permission denied", 125),
+    ("/bin/true", "it doesn't answer as hexd does, and ends with status 0", 125),
+    ("/bin/cat", "it doesn't answer as hexd does, and ends with status 1", 1),
+]
+
+
+def start_faults():
+    """What is said, in one line of the filter's, if there is no hexd."""
+    for program, why, want in WRONG_PROGRAMS:
+        done = subprocess.run(WITH, input=b"name\n", capture_output=True, timeout=LIMIT, env={**os.environ, "HEXD": program})
+        line = f"hexd-gtp: hexd can't be started: {program}: {why}\n"
+        if (done.returncode, done.stdout) != (want, b"") or done.stderr.decode().splitlines(True)[-1:] != [line]:
+            yield f"HEXD is {program}: {done}"
 
 
 def stream_faults():
@@ -257,7 +322,8 @@ def stream_faults():
 
 def main():
     single = [rows_fault(), seed_fault(), trace_fault(), lists_fault(), search_fault()]
-    faults = [fault for fault in single if fault] + [*same_faults(), *stream_faults(), *ending_faults()]
+    parts = (same_faults(), stream_faults(), ending_faults(), signal_faults(), start_faults(), test_moves.faults(WITH))
+    faults = [fault for fault in single if fault] + [fault for part in parts for fault in part]
     for fault in faults:
         print(f"gtp/test.py: {fault}")
     return 1 if faults else 0

@@ -1,6 +1,6 @@
 #!/usr/bin/env python3
-"""Writes what the certificates here say at a glance: a list, a board of each size, README.md's table; and the page
-docs/use/SOLVED.md, with what `hexd solve` took for openings, if there is measured.tsv, which it puts in order.
+"""Writes what the certificates here say at a glance: a list, a board of each size, and README.md's tables, which have also
+what `hexd solve` took for openings, by measured.tsv, which it puts in order.
 
     openings/draw.py            writes them anew
     openings/draw.py --check    says nothing if they are as they would be written, and else ends with 1
@@ -17,14 +17,13 @@ import math
 import sys
 
 from openings import ENDING, FOLDER, KINDS, LIST, MEASURED, Listed, Opening, measured, opening_named, text_of, vertex
-from solved import page
+from solved import tables
 
 sys.path.insert(0, str(FOLDER.parent / "examples"))
 from winning_move import winning_move
 
 README = FOLDER / "README.md"
-SOLVED = FOLDER.parent / "docs" / "use" / "SOLVED.md"
-TABLE = "## Each certificate\n"
+TABLES = "## Each opening\n"
 
 # The circle around a cell has this radius; a row is 3/2 of it below the one before, and half a column to the right.
 RADIUS = 24
@@ -55,16 +54,6 @@ def list_text(known):
 def measured_text():
     rows = [(opening, winner, lines, f"{s:.2f}", megabytes) for opening, (winner, lines, s, megabytes) in measured().items()]
     return "".join("\t".join(map(str, row)) + "\n" for row in rows)
-
-
-def table_text(known):
-    """README.md's table: what each certificate says in words."""
-    rows = ["| file | what it shows | lines |", "|---|---|---|"]
-    for opening, (winner, kind, answer, lines) in known.items():
-        stone = f"On {opening.size} by {opening.size}, after Black's first stone on {vertex(*opening)},"
-        shows = f"{stone} Black wins" if winner == "black" else f"{stone} White wins, by {answer}"
-        rows.append(f"| {opening}{ENDING} | {shows} (`{kind}`) | {lines:,} |")
-    return "\n".join(rows) + "\n"
 
 
 def points(corners):
@@ -153,10 +142,8 @@ def board(size, known):
 
 def main():
     known = kept()
-    front = README.read_text().split(TABLE)[0]
-    texts = {LIST: list_text(known), README: f"{front}{TABLE}\n{table_text(known)}"}
-    if measured():
-        texts |= {MEASURED: measured_text(), SOLVED: page(measured())}
+    front = README.read_text().split(TABLES)[0]
+    texts = {LIST: list_text(known), MEASURED: measured_text(), README: f"{front}{TABLES}\n{tables(known, measured())}"}
     for size in sorted({opening.size for opening in known}):
         texts[FOLDER / "pictures" / f"{size}.svg"] = board(size, known)
     if sys.argv[1:] == ["--check"]:

@@ -7,7 +7,7 @@ of size 3 also each other line cut off. openings/check refuses each file of size
 true certificate with a claim that is not the opening's, a file with a byte changed, and an opening that is missing.
 find.py makes size 3 anew, openings/check accepts what it makes, and a second start finds nothing left to do; a budget
 that is too small leaves an opening open; after Ctrl-C there is no part of a file. The rows that it adds are those that
-the page docs/use/SOLVED.md is made of. positions.py comes to the same number from any other.
+README.md's tables are made of. positions.py comes to the same number from any other.
 
 HEXD names the program; if it isn't set that is bin/hexd.
 """

@@ -3,7 +3,8 @@
 The standard is the Go Text Protocol, version 2, draft 2, which knows no limit for the length of a line. Answers are written
 here as they come, without their two line feeds and with a semicolon between them, and with NAME for the program's own
 answer to `name`. `wanted` has what the draft asks for: some answers, of which any will do, or none, if the draft
-leaves it open. After each probe but the last ones of an input the program is sent one more command, and has to answer it.
+leaves it open; hexd's answer is the first of these, or `hexd`. After each probe but the last ones of an input the program is
+sent one more command, and has to answer it.
 """
 
 from collections.abc import Callable
@@ -12,15 +13,18 @@ from typing import NamedTuple
 SILENT = ""
 FAILURE = "? .."  # A failure with whatever message.
 ANY = "= or ? .."  # One answer, whatever it says.
+# What hexd answers to several.
+UNKNOWN, TOO_LONG = "? unknown command", "? line too long"
 
 
 class Probe(NamedTuple):
-    """What is sent, in words and in bytes; what the draft asks for; whether the input ends after it."""
+    """What is sent, in words and in bytes; what the draft asks for; whether the input ends after it; what hexd answers."""
 
     about: str
     sent: bytes
     wanted: tuple = ()
     is_last: bool = False
+    hexd: str = ""
 
 
 class Record(NamedTuple):
@@ -30,6 +34,7 @@ class Record(NamedTuple):
     text: Callable | None
     name: str = "record.sgf"
     wanted: tuple = (ANY,)
+    hexd: str = "? cannot load file"
 
 
 IDS = [
@@ -37,12 +42,12 @@ IDS = [
     Probe("id 1", b"1 name\n", ("=1 NAME",)),
     Probe("id 0", b"0 name\n", ("=0 NAME",)),
     Probe("id 2147483647, the greatest", b"2147483647 name\n", ("=2147483647 NAME",)),
-    Probe("id 2147483648", b"2147483648 name\n"),
-    Probe("id of 20 nines", b"9" * 20 + b" name\n"),
+    Probe("id 2147483648", b"2147483648 name\n", hexd=UNKNOWN),
+    Probe("id of 20 nines", b"9" * 20 + b" name\n", hexd=UNKNOWN),
     Probe("id 007", b"007 name\n", ("=7 NAME", "=007 NAME")),
-    Probe("id -1", b"-1 name\n"),
-    Probe("id 1.5", b"1.5 name\n"),
-    Probe("an id alone", b"12\n"),
+    Probe("id -1", b"-1 name\n", hexd=UNKNOWN),
+    Probe("id 1.5", b"1.5 name\n", hexd=UNKNOWN),
+    Probe("an id alone", b"12\n", hexd="?12 syntax error"),
     Probe("an id that fails", b"5 no_such\n", ("?5 unknown command",)),
 ]
 CONTROL = [
@@ -56,7 +61,7 @@ CONTROL = [
     Probe("a tab before the name", b"\tname\n", ("= NAME",)),
     Probe("a tab between id and name", b"3\tname\n", ("=3 NAME",)),
     Probe("a line of control bytes", b"\1\2\3\n", (SILENT,)),
-    Probe("byte 228, which is no ASCII", b"n\xe4me\n", (FAILURE,)),
+    Probe("byte 228, which is no ASCII", b"n\xe4me\n", (FAILURE,), hexd=UNKNOWN),
 ]
 SPACES = [
     Probe("spaces around", b"  name  \n", ("= NAME",)),
@@ -65,18 +70,18 @@ SPACES = [
     Probe("a comment without a space", b"name#\n", ("= NAME",)),
     Probe("a comment alone", b"# name\n", (SILENT,)),
     Probe("empty lines", b"\n\n\r\n   \n\t\n", (SILENT,)),
-    Probe("a last line without line feed", b"name", (), True),
+    Probe("a last line without line feed", b"name", (), True, "= NAME"),
 ]
 LONG = [
     Probe("1,000 spaces after the name", b"name" + b" " * 1_000 + b"\n", ("= NAME",)),
-    Probe("5,000 spaces after the name", b"name" + b" " * 5_000 + b"\n", ("= NAME",)),
-    Probe("a name of 70,000 letters", b"x" * 70_000 + b"\n", (FAILURE,)),
-    Probe("a comment of 1,000,000 letters", b"#" + b"x" * 1_000_000 + b"\n", (SILENT,)),
-    Probe("2,000,000 letters", b"x" * 2_000_000 + b"\n", (FAILURE,)),
+    Probe("5,000 spaces after the name", b"name" + b" " * 5_000 + b"\n", ("= NAME",), hexd=TOO_LONG),
+    Probe("a name of 70,000 letters", b"x" * 70_000 + b"\n", (FAILURE,), hexd=TOO_LONG),
+    Probe("a comment of 1,000,000 letters", b"#" + b"x" * 1_000_000 + b"\n", (SILENT,), hexd=TOO_LONG),
+    Probe("2,000,000 letters", b"x" * 2_000_000 + b"\n", (FAILURE,), hexd=TOO_LONG),
 ]
 COMMANDS = [
     Probe("an unknown command", b"no_such\n", ("? unknown command",)),
-    Probe("a command in capitals", b"NAME\n"),
+    Probe("a command in capitals", b"NAME\n", hexd=UNKNOWN),
     Probe("a colour and a vertex in capitals", b"play BLACK C3\n", ("= ",)),
     Probe("play without a vertex", b"play b\n", ("? syntax error",)),
     Probe("play of a third colour", b"play red c3\n", ("? syntax error",)),
@@ -88,7 +93,7 @@ COMMANDS = [
 ]
 RECORDS = [
     Record("a record that is missing", None, "none.sgf", ("? cannot load file",)),
-    Record("a pipe that nobody writes to", None, "pipe"),
+    Record("a pipe that nobody writes to", None, "pipe", hexd="? read fault"),
     Record("100,000 variations in one another", lambda game, move: f"(;{game}" + "(;" * 100_000),
     Record("a board of 99999999999", lambda game, move: f"(;{game}SZ[99999999999];B[{move}])"),
 ]

@@ -3,10 +3,16 @@
 
 # What ends before the program begins has this status, which no program here has.
 NOT_STARTED=125
+share=$here
+. "$here/tools/words.bash" || return
 # Each released program packed as NAME.gz, and what is recorded of it: a line of its name, the SHA-256 of the list of its
 # sources' checksums, its own SHA-256, the commit, and the kit that proved it.
 release=$here/release
 record=$release/RECORD
+
+# A search takes its memory at once, many megabytes of many playouts, and much of the time that this takes goes into pages.
+# So the C library asks the system for pages of two megabytes. A value that the environment has stands, an empty one too.
+LARGE_PAGES=glibc.malloc.hugetlb=1
 
 say() { echo "$name: $*" >&2; }
 
@@ -54,7 +60,7 @@ keep() {
 # Whether the program in this folder is the one that was kept there, made of sources with these checksums.
 is_kept() { [ -x "$1/$name" ] && [ -f "$1/$name.sums" ] && cmp -s "$1/$name.sums" <(echo "$2" && cksum <"$1/$name"); }
 
-# Becomes the program in this folder, with these words; or says where it lies.
+# Becomes the program in this folder, with these words (words.bash); or says where it lies.
 become() {
     local folder=$1
     shift
@@ -62,8 +68,8 @@ become() {
         echo "$folder/$name"
         exit
     fi
-    shopt -s execfail
-    exec "$folder/$name" "$@"
+    export GLIBC_TUNABLES=${GLIBC_TUNABLES-$LARGE_PAGES}
+    begin "$folder/$name" "$@"
     exit "$NOT_STARTED"
 }
 

@@ -1,14 +1,25 @@
-"""The program hexd for the scripts here and in openings/: where it is, one run of it, and a session over pipes.
+"""What the scripts here and in openings/ share: the program hexd, where it is, one run of it, and a session over pipes; and a
+script of tools/ as a module.
 
 HEXD in the environment names the program; if it isn't set that is bin/hexd, which builds it if it isn't fresh.
 """
 
 import os
 import subprocess
+from importlib.machinery import SourceFileLoader
+from importlib.util import module_from_spec, spec_from_loader
 from pathlib import Path
 
 ROOT = Path(__file__).resolve().parent.parent
 HEXD = os.environ.get("HEXD", str(ROOT / "bin" / "hexd"))
+
+
+def tool(name):
+    """A script of tools/ as a module."""
+    loader = SourceFileLoader(name, str(ROOT / "tools" / name))
+    module = module_from_spec(spec_from_loader(name, loader))
+    loader.exec_module(module)
+    return module
 
 
 def run(*words, given=b""):

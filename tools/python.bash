@@ -1,12 +1,12 @@
-# What bin/hexd-board, bin/hexd-report and bin/hexd-gtp share, the programs in Python that stand beside hexd. They set bin, the
-# folder that they stand in, and share, the one with board/ and gtp/.
+# What the programs in Python that stand beside hexd share. They set bin, the folder that they stand in, and share, the one
+# with board/ and gtp/.
 
 # What ends before the program begins has this status, as in bin/start.
 NOT_STARTED=125
 NEEDED='Python 3.10 or later'
 
 # become_python FILE WORD..: becomes this program with these words. It finds hexd by HEXD: what the environment says, else the
-# one of the repository, which is built or taken from release/ now, else the one beside it.
+# one of the repository, which is built or taken from release/ now, else the one that is installed.
 become_python() {
     local own=${0##*/} older='import sys; sys.exit(sys.version_info < (3, 10))' file=$1
     shift
@@ -20,6 +20,6 @@ become_python() {
     if [ -z "$HEXD" ] && [ -x "$bin/start" ]; then
         HEXD=$("$bin/start" --where hexd </dev/null) || exit
     fi
-    export HEXD=${HEXD:-$bin/hexd}
+    export HEXD=${HEXD:-$share/bin/hexd}
     exec python3 "$share/$file" "$@"
 }

@@ -4,14 +4,16 @@
     tools/refused_memory.py [ROW ...]
 
 A run is one of `hex_cli::run`, of words that are read in it, or of `match_ref::run_match`, over
-links in memory, in pieces of seven bytes. Each has to end with its own result, or with status 5,
-its line on standard error, and the answers to the first lines: nothing is left out, nothing is
-given by half, and nothing else comes in place of an answer.
+links in memory, in pieces of seven bytes; or one of hexd's own `main`, over the streams and files of
+the system. Each has to end with its own result, or with status 5, its line on standard error, and
+the answers to the first lines: nothing is left out, nothing is given by half, and nothing else
+comes in place of an answer.
 
 `rt try --fail-alloc N` refuses the Nth allocation of a program, which it builds for that number.
 tools/refused_memory/program.txt is a program that makes as many allocations before the run as its
 first argument says, so that one build serves for all: it is built twice, once to count the allocations of
-each run, and once to refuse each of them. `rt try` builds with checks, so a bad access, a sum that
+each run, and once to refuse each of them. hexd's main.rt with tools/refused_memory/main.txt does so by its
+last argument. `rt try` builds with checks, so a bad access, a sum that
 wraps or a failed `unwrap` ends a run too. That takes some minutes, and no part of it is in the gate.
 
 For each row it prints how many allocations were refused and how these runs ended. Its status is 1
@@ -19,6 +21,7 @@ if one ended otherwise.
 """
 
 import os
+import re
 import shutil
 import subprocess
 import sys
@@ -30,6 +33,13 @@ import second_checker
 TOP = Path(__file__).resolve().parent.parent
 PROGRAM = TOP / "tools" / "refused_memory" / "program.txt"
 NAME = "refused_memory"
+# What is put into hexd's main.rt, each behind or before a text that stands there once; and what comes after it.
+MAIN = TOP / "crates" / "hexd" / "src" / "main.rt"
+BEFORE_MAIN = ("-> ExitCode {\n", "    if !is_begun(&rt) {\n        return ExitCode::from(0);\n    }\n")
+AFTER_MAIN = ("    ExitCode::from(status)\n", "    say_end(&rt);\n")
+USES_OF_MAIN = ("use std::process::ExitCode;\n", "use std::alloc::Global;\nuse std::env;\n")
+MORE_OF_MAIN = TOP / "tools" / "refused_memory" / "main.txt"
+NAME_OF_MAIN = "refused_main"
 # The number of the allocation that is refused. The program's MOST is above it.
 REFUSED = 2000
 
@@ -94,6 +104,15 @@ class Match(Row):
         super().__init__(words, "", given)
 
 
+class Main(Row):
+    """A run of hexd's own `main`, whose words end with the number of allocations before it, as `--seed`."""
+
+    program = "main"
+
+    def __init__(self, words, given):
+        super().__init__(words + " --seed", "", given)
+
+
 TWO_GAMES = "0 a black 1\n(;FF[4]GM[11]SZ[1];B[a1])\n1 b black 1\n(;FF[4]GM[11]SZ[1];B[a1])\na 1 b 1\n"
 
 ROWS = {
@@ -123,6 +142,9 @@ ROWS = {
         "sim --size 1 --workers 3 --playouts 10 --steps 100", "", "best a1\nplayouts 10\na1 10 10\n"
     ),
     "match-records": Match("--size 1 --games 2 --records on --playouts-a 4 --playouts-b 4", TWO_GAMES),
+    "main-trace": Main(
+        "bench --size 1 --playouts 1 --trace t", "size 1\nstones 0\nplayouts 1\nrecords 1\nbest a1 1\n"
+    ),
 }
 
 
@@ -136,6 +158,13 @@ class Run:
         status, length, rest = rest.split("\n", 2)
         self.status, self.errors, self.given = int(status), rest[: int(length)], rest[int(length) :]
 
+    @classmethod
+    def of_main(cls, text, errors, status):
+        """The same of hexd's `main`, whose text the place ends."""
+        given, _, place = text.removesuffix("\n").rpartition("\n")
+        given = given + "\n" if given else ""
+        return cls(f"{place}\n{status}\n{len(errors)}\n{errors}{given}")
+
     def count(self, word):
         """The number after this word, which has to be the first one."""
         if not self.place.startswith(word + " "):
@@ -143,8 +172,18 @@ class Run:
         return int(self.place.split()[1])
 
 
+def main_text():
+    """hexd's main.rt, with what it needs to make allocations before and after its run."""
+    text = MAIN.read_text()
+    for at, more in (BEFORE_MAIN, AFTER_MAIN, USES_OF_MAIN):
+        if text.count(at) != 1:
+            sys.exit("%s has not once %r" % (MAIN, at))
+        text = text.replace(at, at + more if at == BEFORE_MAIN[0] else more + at)
+    return text + MORE_OF_MAIN.read_text()
+
+
 def make_repository(folder):
-    """The sources of every crate, and the program beside them."""
+    """The sources of every crate, and the programs beside them."""
     for crate in (TOP / "crates").iterdir():
         if (crate / "src").is_dir():
             shutil.copytree(crate / "src", folder / "crates" / crate.name / "src")
@@ -152,12 +191,43 @@ def make_repository(folder):
     source.mkdir(parents=True)
     shutil.copy(PROGRAM, source / "main.rt")
     shutil.copy(TOP / "HANDLES", folder)
+    source = folder / "crates" / NAME_OF_MAIN / "src"
+    source.mkdir(parents=True)
+    (source / "main.rt").write_text(main_text())
+    crates = (TOP / "crates.txt").read_text()
     uses = "\n%s: hex_io hex_plan hex_devices hexd_args hex_cli match_ref search_team anyhow\n" % NAME
-    (folder / "crates.txt").write_text((TOP / "crates.txt").read_text() + uses)
+    below_main = next(line for line in crates.splitlines() if line.startswith("hexd:")).partition(":")[2]
+    (folder / "crates.txt").write_text(crates + uses + "%s:%s\n" % (NAME_OF_MAIN, below_main))
 
 
 def run_all(folder, runs):
-    """Runs (row, number of allocations before it) by one build of the program."""
+    """Runs (row, number of allocations before it) by one build of each program."""
+    came = {}
+    for is_main in (False, True):
+        some = [run for run in runs if (ROWS[run[0]].program == "main") == is_main]
+        came |= run_some(folder, some, is_main) if some else {}
+    return came
+
+
+def arguments(row, before):
+    """The arguments of a run."""
+    return [*row.words, str(before)] if row.program == "main" else [str(before), *row.file, row.program, *row.words]
+
+
+def ends_of_main(errors):
+    """What each run of hexd's `main` said on standard error, and its status, by the lines of `rt try`."""
+    ends, said = {}, ""
+    for line in errors.splitlines(keepends=True):
+        found = re.match(r"case=(\S+) run=ended status=(\d+) ", line)
+        if found:
+            ends[found[1]], said = (said, int(found[2])), ""
+        elif not line.startswith("allocations: "):
+            said += line
+    return ends
+
+
+def run_some(folder, runs, is_main):
+    """Runs by one build of one program."""
     cases = folder / "cases"
     shutil.rmtree(cases, ignore_errors=True)
     cases.mkdir()
@@ -166,13 +236,14 @@ def run_all(folder, runs):
         row, case = ROWS[name], "%s.%d" % (name, before)
         names[case] = (name, before)
         (cases / case).write_text(row.input)
-        (cases / (case + ".args")).write_text("\n".join([str(before), *row.file, row.program, *row.words]) + "\n")
+        (cases / (case + ".args")).write_text("\n".join(arguments(row, before)) + "\n")
     command = ["rt", "try", "--fail-alloc", str(REFUSED), "--cases", str(cases)]
-    done = subprocess.run(command, cwd=folder / "crates" / NAME, capture_output=True, text=True)
-    came = {}
+    program = NAME_OF_MAIN if is_main else NAME
+    done = subprocess.run(command, cwd=folder / "crates" / program, capture_output=True, text=True)
+    came, ends = {}, ends_of_main(done.stderr) if is_main else {}
     for part in done.stdout.split("== ")[1:]:
         case, _, text = part.partition("\n")
-        came[names[case]] = Run(text)
+        came[names[case]] = Run.of_main(text, *ends[case]) if is_main else Run(text)
     if done.returncode != 0 or len(came) != len(runs):
         sys.exit("%s\nrt try ended with status %d: %d of %d runs" % (done.stderr, done.returncode, len(came), len(runs)))
     return came

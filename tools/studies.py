@@ -9,9 +9,11 @@ A study is a text. A line is a name and its value, `#` begins a comment:
     setting s180 playouts=1000           a setting: its name, and what of hexmatch's options for a side it says otherwise
     setting s0 playouts=1000 weight=0
     match s180 s0                        which settings meet; without such lines each meets each
+    by hexd                              two sessions of hexd play, with connections (tools/session_games.py), not hexmatch
+    stones 2                             with how many stones on the board such a game begins, 0 if it isn't said
 
-Block k, counted over the whole study, is one run of hexmatch with `--seed` k·2^51: the seeds of the turns of a block lie
-within 2^51, so no two blocks share one.
+Block k, counted over the whole study, is one run of hexmatch with `--seed` k·2^51, or a block of tools/session_games.py with
+this seed: the seeds of the turns of a block lie within 2^51, so no two blocks share one.
 """
 
 import itertools
@@ -23,11 +25,19 @@ from pathlib import Path
 SEED_STEP = 2**51
 MOST_BLOCKS = 2**13
 # hexmatch's options for a side, with their ranges.
-RANGES = {"playouts": (1, 1_000_000), "words": (1_024, 16_777_216), "expand": (1, 1_000), "weight": (0, 1_024)}
-NUMBERS = {"size": (1, 11), "games": (2, 1_000), "blocks": (1, MOST_BLOCKS), "seed": (0, MOST_BLOCKS - 1)}
+RANGES = {
+    "playouts": (1, 1_000_000), "words": (1_024, 16_777_216), "expand": (1, 1_000), "weight": (0, 1_024),
+    "solve": (0, 10_000_000), "look": (0, 1_000_000),
+}
+NUMBERS = {
+    "size": (1, 11), "games": (2, 1_000), "blocks": (1, MOST_BLOCKS), "seed": (0, MOST_BLOCKS - 1), "stones": (0, 2),
+}
+PROGRAMS = ["hexmatch", "hexd"]
 # A line of a game, and the last line, as hexmatch writes them.
 GAME = re.compile(r"(\d+) (a|b|none) (black|white|none) (\d+)")
 LAST = re.compile(r"a (\d+) b (\d+)")
+# What the sides have taken of the processor, and their moves, as tools/session_games.py writes it.
+TIMES = re.compile(r"seconds a ([\d.]+) (\d+) b ([\d.]+) (\d+)")
 
 
 class Fault(Exception):
@@ -42,6 +52,8 @@ class Study:
     games: int = 20
     blocks: int = 1
     seed: int = 0
+    stones: int = 0
+    by: str = "hexmatch"
     settings: dict = field(default_factory=dict)
     matches: list = field(default_factory=list)
 
@@ -56,9 +68,13 @@ class Study:
         """The settings that meet in a block: the first blocks of all matches come first, so that all grow alike."""
         return self.pairs()[block % len(self.pairs())]
 
+    def seed_of(self, block):
+        return (self.seed + block) * SEED_STEP
+
     def words_of(self, block):
-        """The words of the run of hexmatch that plays a block."""
-        words = ["--size", self.size, "--games", self.games, "--seed", (self.seed + block) * SEED_STEP]
+        """The words of the run of hexmatch that plays a block; of two sessions of hexd, the same and the stones."""
+        words = ["--size", self.size, "--games", self.games, "--seed", self.seed_of(block)]
+        words += ["--stones", self.stones] if self.by == "hexd" else []
         for side, name in zip("ab", self.pair_of(block)):
             for option, value in self.settings[name].items():
                 words += [f"--{option}-{side}", value]
@@ -86,6 +102,8 @@ def read_setting(words):
 def read_line(study, name, words):
     if name in NUMBERS and len(words) == 1:
         setattr(study, name, number(name, words[0], NUMBERS))
+    elif name == "by" and len(words) == 1 and words[0] in PROGRAMS:
+        study.by = words[0]
     elif name == "setting" and words and re.fullmatch(r"[\w.+-]+", words[0]) and words[0] not in study.settings:
         study.settings[words[0]] = read_setting(words[1:])
     elif name == "match" and len(words) == 2 and words[0] != words[1] and set(words) <= set(study.settings):
@@ -104,14 +122,22 @@ def read(path):
                 read_line(study, name, words)
         except Fault as fault:
             raise Fault(f"{path}, line {at}: {fault}") from None
+    if study.stones and study.by != "hexd" or study.stones > study.size**2 // 2:
+        raise Fault(f"{path}: so many stones stand on no board, or games are not played by hexd")
     if len(study.settings) < 2 or study.games % 2 or study.seed + study.count() > MOST_BLOCKS:
         raise Fault(f"{path}: a study has two settings or more, an even number of games, and at most {MOST_BLOCKS:,} blocks")
     return study
 
 
+def times_in(text):
+    """The seconds of the processor and the moves of both sides, if the text has them: a pair for each side."""
+    found = TIMES.search(text)
+    return found and ((float(found[1]), int(found[2])), (float(found[3]), int(found[4])))
+
+
 def wins_in(text, games):
-    """How many games the sides have won by a text of hexmatch. Fault if it is none of so many games."""
-    *lines, last = text.splitlines() or [""]
+    """How many games the sides have won by the text of a block. Fault if it is none of so many games."""
+    *lines, last = re.sub(rf"^{TIMES.pattern}\n", "", text, flags=re.M).splitlines() or [""]
     found, sums = [GAME.fullmatch(line) for line in lines], LAST.fullmatch(last)
     numbers = [int(game[1]) for game in found if game]
     sides = [game[2] for game in found if game]

@@ -1,8 +1,8 @@
 #!/usr/bin/env python3
 """Writes hexd.html, the board of board/page with hexd in it: one file that a browser opens from a disk or from any host.
 
-    page.py [--module FILE] [--playouts N] [OUT]     OUT is web/out/hexd.html if it isn't named
-    page.py --compare FILE                           whether FILE is what its sources make; the status is 1 if it isn't
+    page.py [--module FILE] [OUT]    OUT is web/out/hexd.html if it isn't named
+    page.py --compare FILE           whether FILE is what its sources make; the status is 1 if it isn't
 
 Without --module it makes the module anew (build.py). The page names the sum of its sources and the kit: if these are others,
 it isn't compared, which is said. The board's files stand in it as they are, and those of SESSION in the place of its
@@ -26,11 +26,12 @@ HERE = Path(__file__).resolve().parent
 ROOT = HERE.parent
 BOARD = ROOT / "board" / "page"
 OPENINGS = ROOT / "openings"
+# How strongly hexd plays, for the board too.
+SETTINGS = ROOT / "board" / "settings.json"
 # What stands in the place of the board's session.js.
 SESSION = [HERE / name for name in ("run.js", "openings.js", "session.js")]
 # The certificates of these sizes are small.
 SIZES = "345"
-PLAYOUTS = 100_000
 TRIED = "Chromium 156 and Firefox 153"
 SAID = "What hexd answers is proved; this page, which draws it, is not."
 SAID_HERE = "hexd runs in this page. Its code is proved; how WebAssembly runs it, and the page, are tested alone."
@@ -51,6 +52,11 @@ def hash_of(text):
     return f"'sha256-{base64.b64encode(hashlib.sha256(text.encode()).digest()).decode()}'"
 
 
+def settings(started):
+    """What the page's scripts read of the settings; `started` are options that stand before the table's default."""
+    return json.dumps({"table": json.loads(SETTINGS.read_text()), "started": started})
+
+
 def certificates():
     """The files of the openings of small boards."""
     return sorted(file for size in SIZES for file in OPENINGS.glob(f"{size}-*.cert.xz"))
@@ -65,7 +71,7 @@ def sources():
     """The sum of the names and the contents of all that the page is made of."""
     sum_of_all = hashlib.sha256()
     own = [*SESSION, HERE / "worker.js", HERE / "page.py"]
-    for file in sorted({*build.sources(), *own, *BOARD.iterdir(), *certificates()}):
+    for file in sorted({*build.sources(), *own, *BOARD.iterdir(), SETTINGS, *certificates()}):
         sum_of_all.update(f"{file.relative_to(ROOT)} {hashlib.sha256(file.read_bytes()).hexdigest()}\n".encode())
     return sum_of_all.hexdigest()
 
@@ -98,7 +104,7 @@ def put(text, old, new):
     return text.replace(old, new)
 
 
-def page(module, playouts):
+def page(module):
     """The text of the file."""
     text, scripts = scripts_of((BOARD / "index.html").read_text())
     style = (BOARD / "board.css").read_text()
@@ -108,12 +114,13 @@ def page(module, playouts):
     text = put(text, SAID, SAID_HERE)
     rules = f'<meta http-equiv="Content-Security-Policy" content="{policy(scripts, style)}">\n'
     text = put(text, "<title>", f"{rules}<title>")
-    said = {"tried": TRIED, "playouts": playouts, "sources": sources(), "kit": build.kit_said()}
+    said = {"tried": TRIED, "sources": sources(), "kit": build.kit_said()}
     words = " ".join(f'data-{name}="{value}"' for name, value in said.items())
     parts = [
         f'<script type="text/plain" id="worker">{(HERE / "worker.js").read_text()}</script>',
         f'<script type="text/plain" id="hexd" {words} data-packed>{packed(module)}</script>',
         f'<script type="text/plain" id="openings" data-packed>{packed(json.dumps(openings()).encode())}</script>',
+        f'<script type="application/json" id="settings">{settings(None)}</script>',
         *(f"<script>{script}</script>" for script in scripts),
     ]
     return put(text, "</body>", "\n".join([*parts, "</body>"]))
@@ -136,7 +143,7 @@ def module_of(file):
 
 def said_in(shipped):
     """What a page says of how it was made."""
-    return dict(re.findall(r'data-(playouts|sources|kit)="([^"]*)"', shipped))
+    return dict(re.findall(r'data-(sources|kit)="([^"]*)"', shipped))
 
 
 def is_of_others(shipped):
@@ -156,25 +163,24 @@ def what_changed(before, made):
     if content(before) == content(made):
         return "as before"
     old, new = said_in(before), said_in(made)
-    other = [name for name in ("sources", "kit", "playouts") if old.get(name) != new.get(name)]
+    other = [name for name in ("sources", "kit") if old.get(name) != new.get(name)]
     return f"other {', '.join(other)}" if other else "changed, of the same sources"
 
 
 def is_same(shipped, module):
     """Whether a shipped page is what its sources make; if they aren't those of the tree there is nothing to compare."""
-    return is_of_others(shipped) or content(shipped) == content(page(module_of(module), int(said_in(shipped)["playouts"])))
+    return is_of_others(shipped) or content(shipped) == content(page(module_of(module)))
 
 
 def main():
     parser = argparse.ArgumentParser(prog="web/page.py")
     parser.add_argument("--module", type=Path, metavar="FILE")
-    parser.add_argument("--playouts", type=int, default=PLAYOUTS, metavar="N")
     parser.add_argument("--compare", type=Path, metavar="FILE")
     parser.add_argument("out", type=Path, nargs="?", default=HERE / "out" / "hexd.html", metavar="OUT")
     options = parser.parse_args()
     try:
         if not options.compare:
-            made = page(module_of(options.module), options.playouts)
+            made = page(module_of(options.module))
             before = options.out.read_text() if options.out.exists() else ""
             options.out.parent.mkdir(parents=True, exist_ok=True)
             options.out.write_text(made)

@@ -6,7 +6,7 @@
 class Refused extends Error {}
 
 // A page's hexd has one thread.
-const SETTINGS = {playouts: Number(HEXD.dataset.playouts), weight: 0, workers: 1};
+const SETTINGS = {...JSON.parse(document.getElementById('settings').textContent), workers: 1};
 // The file that stands for a record (worker.js).
 const RECORD = 'record.sgf';
 // A module's memory never shrinks: past so many bytes the next game gets a new run.
@@ -19,36 +19,19 @@ function answered(answer) {
   throw new Refused(text);
 }
 
-/** The text of a file: in UTF-8, else with a character for each byte. */
-function decoded(bytes) {
-  try {
-    return new TextDecoder('utf-8', {fatal: true}).decode(bytes);
-  } catch {
-    return new TextDecoder('latin1').decode(bytes);
-  }
-}
-
 class Session {
   constructor(words, run) { Object.assign(this, {words, run, solving: null}); }
 
   static async settings() { return SETTINGS; }
 
-  /** Opens a session whose searches have so many playouts; without a number as many as the settings say. */
-  static async open(playouts = '') {
-    const options = Object.entries({...SETTINGS, ...playouts && {playouts}});
-    const words = ['htp', ...options.flatMap(([name, value]) => [`--${name}`, `${value}`])];
+  /** Opens a session of a hexd with these options. */
+  static async open(options) {
+    const words = ['htp', ...Object.entries(options).flatMap(([name, value]) => [`--${name}`, `${value}`])];
     return new Session(words, await Run.start(words));
   }
 
   /** There is always room. */
   static async makeRoom() {}
-
-  /** The text of a record in hexd's form, which is all that is read here: {record, notes}. */
-  static async convert(bytes) {
-    const text = decoded(bytes), begin = text.search(/\(\s*;/);
-    if (begin < 0 || text.includes('\0')) throw new Refused('it is no record of a game');
-    return {record: text.slice(begin), notes: []};
-  }
 
   /** Who is proved to win after Black's first stone on each cell of which it is known: 'black' or 'white' by vertex. */
   static async winners(size) { return winnersOf(size); }

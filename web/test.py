@@ -49,12 +49,14 @@ MOST_BYTES = 200_000_000
 SMALL = 200
 # A page of memory has 65,536 bytes: so many are too few for a search.
 FEW_PAGES = 320
-# Tests of the board's page in the quick form; and those that are of its server, which also reads records of other programs.
+# Tests of the board's page in the quick form; and those that are of its server.
 OF_BOARD = """test_size_3_by_clicks test_size_11_by_clicks_and_keys_against_hexd test_hexd_against_itself test_swap
-test_save_and_open test_what_is_refused_says_why test_a_certified_win test_the_map_on_an_empty_board""".split()
+test_a_reload_keeps_what_hexd_said test_save_and_open test_the_table test_what_is_refused_says_why
+test_a_record_of_another_program test_a_certificate_is_opened test_a_certified_win test_the_map_on_an_empty_board
+test_a_proof_is_played_to_the_end test_hexd_swaps test_a_game_by_the_clock test_a_saved_game""".split()
 OF_SERVER = """test_a_lost_process test_a_page_that_goes_ends_its_session test_the_page_after_the_last_place test_copies
-test_a_record_of_another_program test_what_a_record_says_is_kept test_stop_ends_a_search test_back_without_a_process
-test_to_the_start_by_one_record""".split()
+test_stop_ends_a_search test_a_certificate_wins_for_a_weak_hexd
+test_back_without_a_process test_to_the_start_by_one_record test_strengths""".split()
 
 
 def missing():
@@ -253,15 +255,15 @@ class Page(InBrowser):
         """It ends the worker that searches, and another one has the game."""
         browser = self.open(f"{self.small.as_uri()}#11,f6")
         browser.choose("#player-w", "I")
-        browser.choose("#strength", "1000000")
         first = self.in_page("runOfPage", 1)
+        # The line is lost, so that no search ends before a busy browser has pressed Stop.
+        browser.run("play.game.session.run.give = () => {}")
         browser.press("#go")
         until(lambda: browser.find("#stop").is_displayed(), "there is Stop")
         browser.press("#stop")
         browser.ready()
         self.assertEqual(["f6"], self.moves())
         self.assertNotEqual(first, self.in_page("runOfPage", 1))
-        browser.choose("#strength", str(SMALL))
         browser.click("#go")
         self.assertEqual(("f6", 2), (self.moves()[0], len(self.moves())))
 
@@ -294,34 +296,6 @@ class Page(InBrowser):
         browser.click("#again")
         browser.cell("d2")
         self.assertEqual(["c3", "b3", "d2"], self.moves())
-
-    def test_records(self):
-        """What is no record in hexd's form is refused, and what is left out of one is said."""
-        browser = self.open(f"{self.small.as_uri()}#3,a2")
-        for record, link, said in (
-            (b"(;SZ[4];B[b2];W[])", "3,a2", "hexd: move 2 is no move: White ''"),
-            (b"(;SZ[4];B[b2];W[cc])", "3,a2", "hexd: move 2 is no move: White 'cc'"),
-            (b"(;SZ[4];B[b2]W[a1])", "3,a2", "hexd: node 1 has two moves"),
-            (b"(;SZ[4];B[b2];AB[a1])", "3,a2",
-             "hexd: stones are set or taken away at move 2, and hexd takes those of the start alone"),
-            (b"(;SZ[4]AW[zz];B[b2])", "3,a2", "hexd: a stone of the start lies on no cell: 'zz'"),
-            (b"(;SZ[4:5];B[b2])", "3,a2", "hexd: size 4:5: hexd plays 1 to 11"),
-            (b"(\n;SZ[4:4]AW[A1];B[B2])", "4,+w-a1,b2", ""),
-            (b"(;B[b2])", "11,b2", ""),
-            (b"(;SZ[4];B[b2];W[c3", "4,b2", "The file breaks off in the record: what stands before that is opened."),
-            (b"(;SZ[4](;B[b2])", "4,b2", "The file breaks off in the record: what stands before that is opened."),
-            (b"(;SZ[4];B[b2])(;SZ[4];B[c3])", "4,b2", "The file has 2 games; this is the first."),
-            (b"(;SZ[4];B[b2](;W[a1])(;W[pass];B[c1]))", "4,b2,a1", "A side line is left out: move 2 is no move: White 'pass'."),
-            (b"(;SZ[5]PB[Jos\xe9];B[b2])", "5,b2", ""),
-        ):
-            with self.subTest(record=record):
-                file = browser.folder / "opened.sgf"
-                file.write_bytes(record)
-                browser.find("#open").send_keys(str(file))
-                told = lambda: (browser.run("return location.hash.slice(1)"), browser.text("#said"))  # noqa: E731
-                until(lambda: told() == (link, said), f"{link} and '{said}'")
-                browser.ready()
-        self.assertIn("Jos\u00e9", browser.text("#record .names"))
 
     def test_a_broken_module(self):
         address = self.changed("broken", r'(id="hexd"[^>]*>)[^<]{400}', r"\1")
@@ -418,11 +392,11 @@ class Host:
 
 def of_board(file, browser, is_long):
     """The tests of the board's page with this page in the place of the server's: some, or all that need no server."""
-    from tests import of_games, of_records, of_thoughts, of_windows, pages
+    from tests import of_choices, of_games, of_hands, of_records, of_thoughts, of_windows, pages
 
     pages.shared.update(server=NoServer(file), browser=browser)
     loader = unittest.TestLoader()
-    modules = [loader.loadTestsFromModule(it) for it in (of_games, of_records, of_thoughts, of_windows)]
+    modules = [loader.loadTestsFromModule(it) for it in (of_choices, of_games, of_hands, of_records, of_thoughts, of_windows)]
     found = [test for suites in modules for suite in suites for test in suite]
     return [test for test in found if is_chosen(test, OF_SERVER if is_long else OF_BOARD) != is_long]
 
@@ -437,11 +411,11 @@ def pages(options, folder):
     made.parent.mkdir()
     text = options.page.read_text() if options.page else ""
     if not text or page.is_of_others(text):
-        text = page.page(page.module_of(None), page.PLAYOUTS)
+        text = page.page(page.module_of(None))
     made.write_text(text)
     driver = "".join((HERE / name).read_text() for name in ("driver.js", "heap.js"))
     for old, new in (
-        (f'data-playouts="{page.PLAYOUTS}"', f'data-playouts="{SMALL}"'),
+        (page.settings(None), page.settings({"playouts": SMALL, "weight": 0})),
         ("'wasm-unsafe-eval'", f"'wasm-unsafe-eval' {page.hash_of(driver)}"),
         ("</body>", f"<script>{driver}</script>\n</body>"),
     ):

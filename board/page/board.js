@@ -128,7 +128,7 @@ class BoardView {
    * Draws what stands on the board. All parts of a view may be left out:
    * stones (Map to 'b' or 'w'), last, chosen and next (vertices), numbers (Map), visits (Map to {visits, won, share}),
    * dimmed, carrier, ends and answers (Sets of vertices), middle (a vertex), edges (Set of 0 to 3), chain (vertices in a
-   * row), openings (Map to 'b' or 'w'), ghost ('b' or 'w': the colour that a click plays).
+   * row), openings (Map to 'b' or 'w'), replies (Map to lists of vertices), ghost ('b' or 'w': the colour that a click plays).
    */
   show(view) {
     this.view = view;
@@ -159,6 +159,7 @@ class BoardView {
     if (view.ends?.has(vertex)) made.push(round('end', RADIUS * 0.5));
     if (number !== undefined) made.push(wordsAt(`number ${stone}`, number, x, y, number > 99 ? 10 : 12));
     else if (seen?.share >= LEAST_SHARE) made.push(...this.counts(seen, stone, x, y));
+    else if (view.replies?.has(vertex)) made.push(wordsAt('reply', view.replies.get(vertex)[0], x, y, 9));
     if (view.middle === vertex) {
       made.push(diamond(x, y));
     } else if (view.last === vertex && stone) {
@@ -224,16 +225,22 @@ class BoardView {
   }
 }
 
+/** What is said of a cell that a search looked at: its visits or nodes, and what came of them. */
+const visitWords = ({visits, won, share, isLook}) => [
+  `${counted(visits, isLook ? 'node' : 'visit')} (${percent(share)})`,
+  isLook ? `worth ${percent(won / visits)}` : `${percent(won / visits)} of them won`,
+];
+
 /** What is said of a cell where it is read out or pointed at. */
 function cellWords(vertex, view) {
   const stone = view.stones?.get(vertex), seen = view.visits?.get(vertex), winner = view.openings?.get(vertex);
   const parts = [vertex, stone ? COLOURS[stone] : 'empty'];
   if (view.last === vertex) parts.push('last move');
-  if (seen) parts.push(`${seen.visits} visits (${percent(seen.share)})`);
-  if (seen?.visits) parts.push(`${percent(seen.won / seen.visits)} of them won`);
+  if (seen?.visits) parts.push(...visitWords(seen));
   if (view.dimmed?.has(vertex)) parts.push('outside a threat');
   if (view.carrier?.has(vertex)) parts.push('in the carrier');
   if (view.answers?.has(vertex)) parts.push('the answer by the certificate');
+  if (view.replies?.has(vertex)) parts.push(`answered by ${view.replies.get(vertex).join(' or ')}`);
   if (winner) {
     const answer = winner === 'b' ? 'White swaps' : 'White does not swap';
     parts.push(`proved: ${COLOURS[winner]} wins after Black's first stone here, so ${answer}`);

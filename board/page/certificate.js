@@ -115,6 +115,12 @@ function readCertificate(text) {
   return {size, player, claim: claim[0], lines, claimed: lines[Number(claim[1])]};
 }
 
+/** The stones of a certificate's board, as pairs of a vertex and a colour. */
+const certificateStones = text => text.split('\n', 5).slice(3).flatMap(line => {
+  const [name, ...cells] = line.split(' ');
+  return cells.map(vertex => [vertex, name[0]]);
+});
+
 /** What is marked on a board for one line: its ends, what lies between them, and its carrier. */
 function lineMarks({ends, between, carrier, given, rule}, player) {
   if (rule === 'put') return {ends: new Set(given)};

@@ -27,11 +27,12 @@ function drawCourse(game, proofs, onGoTo) {
 function moveItem(position, at, onGoTo) {
   const name = position.number <= at ? 'move' : 'move ahead';
   const button = htmlElement('button', {type: 'button', class: name}, ...moveLabel(position.step));
+  button.setAttribute('aria-label', `Move ${position.number}: ${stepWords(position.step)}`);
   if (position.number === at) button.setAttribute('aria-current', 'true');
   button.onclick = () => onGoTo(position);
   const others = position.parent.children.filter(child => child !== position);
   return htmlElement('li', {}, button, ...others.map(child => {
-    const title = `Side line: ${COLOURS[child.step.colour]} ${child.step.move}`;
+    const title = `Side line: ${stepWords(child.step)}`;
     const name = {class: 'side', title, 'aria-label': title};
     const side = htmlElement('button', {type: 'button', ...name}, ...moveLabel(child.step));
     side.onclick = () => onGoTo(child);

@@ -4,7 +4,7 @@
 /** Wires the section 'Keep and open' of the page. */
 function wireFiles(play) {
   const {game} = play, on = (id, use) => byId(id).addEventListener('click', use);
-  on('save', () => saveFile('game.sgf', new Blob([`${recordOfTree(game.tree)}\n`])));
+  on('save', () => play.act(() => play.save()));
   byId('open').addEventListener('change', async event => {
     const [file] = event.target.files;
     if (file) await play.open(file);

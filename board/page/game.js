@@ -15,7 +15,8 @@ function stonesOf(board) {
 
 class Game {
   constructor() {
-    Object.assign(this, {session: null, tree: new Tree(11), held: null});
+    this.now = () => performance.now();
+    Object.assign(this, {session: null, options: null, tree: newGame(11), held: null});
     this.tree.root.facts = {stones: new Map(), winner: null, canSwap: false};
   }
 
@@ -135,25 +136,37 @@ class Game {
   }
 
   async moved(colour, move) {
-    const position = this.tree.after(this.at, {colour, move});
+    const {tree, at} = this, known = at.children.length, position = tree.after(at, {colour, move});
+    // A record's result is that of the moves it had.
+    if (at.children.length > known) delete tree.root.properties.RE;
     this.held = position;
     await this.goTo(position);
   }
 
-  /** Lets hexd move for who is to move, and keeps what it says of it. */
+  /** Lets hexd move for who is to move, and keeps what it says of it; it swaps if its search says so. */
   async generate() {
     const {at, mover} = this;
-    await this.hold(at);
-    at.thought = await this.thoughtOf(at);
-    await this.moved(mover, at.thought.cell);
+    await this.think(at);
+    const {thought} = at;
+    // Who is proved to win, or to lose, is no matter of a search.
+    const isProved = winnerByStones(at, null) === 'w';
+    if (at.facts.canSwap && !isProved && isSwapBetter(thought)) await this.playKnown({move: SWAP, why: swapWords(thought)});
+    else await this.play(thought.cell);
   }
 
-  /** What hexd says of the position that it holds, with its move. How long it took for each playout is the game's pace. */
+  /** Plays a move that hexd has by other means than a search. */
+  async playKnown({move, why}) {
+    await this.play(move);
+    this.at.why = why;
+  }
+
+  /** What hexd says of the position that it holds, with its move. How long a search took is kept. */
   async thoughtOf(position) {
     this.held = null;
-    const begun = performance.now(), cell = await this.session.ask(`genmove ${position.mover}`);
-    const took = performance.now() - begun, thought = await this.ask(position, cell);
-    if (thought.playouts) this.pace = took / thought.playouts;
+    const begun = this.now(), cell = await this.session.ask(`genmove ${position.mover}`);
+    const took = this.now() - begun, thought = await this.ask(position, cell);
+    // A move that was certified was not searched for.
+    if (thought.rows.length) this.took = {milliseconds: took, options: this.options};
     return thought;
   }
 
@@ -169,25 +182,28 @@ class Game {
 
   /** Whether White may swap, by this move or by the next. */
   mayStillSwap(position) {
-    return position.facts.canSwap || (position.mover === 'b' && !position.number && !position.tree.start.length);
+    return position.facts.canSwap || position.tree.isFirst(position);
   }
 
   async ask(position, cell) {
     const {session} = this, mover = position.mover, swap = this.mayStillSwap(position);
     const mustplay = await session.ask('mustplay');
+    const look = this.options.look ? await session.tell('look-report') : null;
     const report = await session.tell('search-report'), certificate = await session.tell('wincert');
     const checked = certificate === null ? null : await session.check(`${certificate}\n`);
-    return readThought({mover, cell, swap, mustplay, report, certificate, checked});
+    return readThought({mover, cell, swap, mustplay, report, look, certificate, checked});
   }
 
   /** Asks the solver who wins a position, and keeps what it says. */
   async solve(position, budget) {
+    // The solver takes a position without steps as one with Black to move.
+    if (!position.number && position.mover === 'w') throw new Refused('the solver takes no start with White to move');
     const {session} = this, said = await session.solve(recordOfPath(position), budget);
     const [first, ...lines] = said.split('\n'), certificate = lines.join('\n');
     const checked = certificate ? await session.check(`${certificate}\n`) : null;
     position.solved = readSolved(first, certificate, checked, position.mover, this.mayStillSwap(position));
   }
 
-  /** Goes on in a new session. */
-  renew(session) { Object.assign(this, {session, held: null}); }
+  /** Goes on in a new session, of a hexd with these options. */
+  renew(session, options) { Object.assign(this, {session, options, held: null}); }
 }

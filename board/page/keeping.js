@@ -1,31 +1,41 @@
 'use strict';
 // What lasts: the game in the address and in the browser's history, so that a reload finds it and Back brings the last one;
-// and the players, the strength and the switches in the browser's store.
+// what hexd said of it in the browser's database (store.js); the strength and the switches in the browser's store; and the
+// players in that of the tab, so that another tab's choice changes nothing.
 
 const KEPT = 'hexd-board';
 
 /** Keeps the choices of the page's `.kept` elements, and sets them as they were kept. */
 const kept = {
-  elements: () => [...document.querySelectorAll('.kept')],
+  // The stores by name, with the elements of each.
+  stores: {localStorage: '.kept:not(.by-tab)', sessionStorage: '.kept.by-tab'},
+
+  elements: (of = '.kept') => [...document.querySelectorAll(of)],
 
   save() {
-    const values = {};
-    for (const {id, type, checked, value} of this.elements()) values[id] = type === 'checkbox' ? checked : value;
-    try {
-      localStorage.setItem(KEPT, JSON.stringify(values));
-    } catch {
-      // Without a store they last as long as the page.
+    for (const [store, of] of Object.entries(this.stores)) {
+      const values = {};
+      for (const {id, type, checked, value} of this.elements(of)) values[id] = type === 'checkbox' ? checked : value;
+      try {
+        window[store].setItem(KEPT, JSON.stringify(values));
+      } catch {
+        // Without a store they last as long as the page.
+      }
     }
   },
 
   restore() {
+    for (const [store, of] of Object.entries(this.stores)) this.restoreFrom(store, of);
+  },
+
+  restoreFrom(store, of) {
     let values = {};
     try {
-      values = JSON.parse(localStorage.getItem(KEPT)) ?? {};
+      values = JSON.parse(window[store].getItem(KEPT)) ?? {};
     } catch {
       return;
     }
-    for (const element of this.elements()) {
+    for (const element of this.elements(of)) {
       const value = values[element.id];
       if (typeof value === 'boolean') element.checked = value;
       else if ([...element.options ?? []].some(option => option.value === value)) element.value = value;
@@ -35,7 +45,7 @@ const kept = {
 
 /** The games of this page by the entries of the browser's history. */
 class Keeping {
-  constructor() { this.trees = new Map(); }
+  constructor() { Object.assign(this, {trees: new Map(), store: new Store()}); }
 
   /** Writes a game into the address and the entry of the history; `anew` makes another entry, which Back leaves. */
   keep(tree, anew) {
@@ -52,11 +62,13 @@ class Keeping {
     }
   }
 
-  /** The game of an entry of the history; null where the entry has none. */
-  treeOf(state) {
+  /** The game of an entry of the history, with what hexd said of it; null where the entry has none. */
+  async treeOf(state) {
     if (!state?.record) return null;
-    const tree = this.trees.get(state.id) ?? treeOfRecord(state.record).tree;
+    if (this.trees.has(state.id)) return this.trees.get(state.id);
+    const {tree} = treeOfRecord(state.record);
     tree.id = state.id;
+    await this.store.fill(tree);
     return tree;
   }
 }

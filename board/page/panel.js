@@ -23,7 +23,9 @@ class Panel {
       this.choices.drawProof(said);
     }
     this.drawStatus(state);
-    byId('words').replaceChildren(...thoughtElements(game, this.proof, this.map));
+    this.replies = game.winner ? new Map() : repliesOf(this.proof, game);
+    const known = {even: state.strengths?.even(game.size), replies: this.replies, progress: state.progress};
+    byId('words').replaceChildren(...thoughtElements(game, this.proof, this.map, known));
     this.drawBoard();
     drawCourse(game, this.proofs, position => this.onGoTo(position));
     this.drawControls(state);
@@ -63,10 +65,16 @@ class Panel {
     if (this.map) marks.openings = this.map;
     const solved = at.solved?.proof ? at.solved : null, {proof: certificate} = solved ?? shown?.thought ?? {};
     if (on('show-carrier') && certificate) marks.carrier = certificate.claimed.carrier;
-    if (solved) return Object.assign(marks, {chosen: solved.cell});
+    if (solved) return this.withReplies(Object.assign(marks, {chosen: solved.cell}), on);
     if (shown) Object.assign(marks, this.thoughtMarks(shown.thought, shown.here, on));
     if (!shown?.here && proof && !proof.here && proof.player === mover) marks.answers = new Set(proof.answers);
-    return marks;
+    return this.withReplies(marks, on);
+  }
+
+  /** The answers of a proof in place of the visits of a search. */
+  withReplies(marks, on) {
+    if (!on('show-carrier') || !this.replies?.size) return marks;
+    return Object.assign(marks, {visits: null, replies: this.replies});
   }
 
   thoughtMarks(thought, here, on) {
@@ -99,7 +107,7 @@ class Panel {
     byId('readout').textContent = this.view.cells.has(vertex) ? cellWords(vertex, this.shownView) : '\u00a0';
   }
 
-  drawControls({busy, thinking, lost, full, analysing, players, settings}) {
+  drawControls({busy, thinking, lost, full, analysing, players, strengths}) {
     const {game} = this, {at} = game, size = game.tree;
     const enable = (id, can) => { byId(id).disabled = Boolean(lost) || !can; };
     for (const id of ['first', 'back', 'undo']) enable(id, at.parent);
@@ -107,7 +115,7 @@ class Panel {
     for (const id of ['new', 'size', 'open', 'player-b', 'player-w', 'strength']) enable(id, true);
     for (const id of ['hint', 'go']) enable(id, !game.winner);
     enable('analyse', size.line.length > 1);
-    enable('prove', !game.winner && game.size <= LARGEST_PROVED);
+    enable('prove', !game.winner);
     enable('swap', game.canSwap);
     byId('swap').classList.toggle('away', !game.canSwap);
     byId('stop').classList.toggle('away', !thinking);
@@ -118,16 +126,11 @@ class Panel {
     byId('room').hidden = !full;
     byId('again').textContent = full ? 'Try again' : 'Go on with a new hexd';
     byId('alert-text').textContent = lost ?? '';
-    if (settings) byId('strength-words').textContent = strengthWords(settings, game.pace);
+    if (strengths) {
+      const {pace, options} = this.state;
+      byId('strength-words').textContent = pace ? clockWords(pace) : strengthWords(options, game.took);
+    }
     if (document.activeElement !== byId('link')) byId('link').value = `${Session.address}#${linkOfTree(game.tree)}`;
   }
 }
 
-/** How hexd searches, in words. `pace` is how many milliseconds a playout took in the last search, if there was one. */
-function strengthWords({weight, workers}, pace) {
-  const playouts = Number(byId('strength').value);
-  const how = `hexd searches with ${grouped(playouts)} playouts a move, weight ${weight}, ${counted(workers, 'worker')}`;
-  if (!pace) return `${how}.`;
-  const seconds = Math.round(pace * playouts / 1000);
-  return `${how}: ${seconds ? `some ${grouped(seconds)} s` : 'less than a second'} a move, as the last search went.`;
-}

@@ -1,15 +1,12 @@
 'use strict';
 // The page at work: one thing after another, whose turn is hexd's, and what happens where a session or the server is lost.
 
-// The solver is offered up to this size, and may enter so many positions.
-const LARGEST_PROVED = 6;
-const BUDGET = 1_000_000;
 const AT_WORK = 'hexd is at work: Stop ends it.';
 
 class Play {
   constructor() {
-    Object.assign(this, {busy: false, thinking: null, running: false, stopping: false, lost: null, full: false, waiting: [],
-      settings: null, entered: false, isNew: false});
+    Object.assign(this, {busy: false, thinking: null, progress: null, running: false, stopping: false, waiting: []});
+    Object.assign(this, {lost: null, full: false, cuts: [], strengths: null, entered: false, isNew: false});
     this.view = new BoardView(byId('board'), {
       onPick: vertex => this.pick(vertex),
       onPoint: vertex => this.panel.drawReadout(vertex),
@@ -25,7 +22,10 @@ class Play {
 
   get isHexdsTurn() { return !this.game.winner && this.players[this.game.mover] === 'hexd'; }
 
-  draw() { this.panel.draw(this); }
+  draw() {
+    this.panel.draw(this);
+    drawHands(this);
+  }
 
   /** Does one thing after another, in the order in which they come. `goOn`: then hexd moves as long as it is its turn. */
   async act(use, goOn = false) {
@@ -43,15 +43,27 @@ class Play {
     this.message.clear();
     this.draw();
     try {
-      await use();
+      await this.inSession(use);
       await this.settle();
-      while (this.running && this.isHexdsTurn) await this.letHexdMove();
+      while (this.running && this.isHexdsTurn) await this.inSession(() => this.letHexdMove());
     } catch (fault) {
       await this.fail(fault);
     }
+    await this.keeping.store.keep(this.game.tree);
     this.stopClock();
     this.message.take(AT_WORK);
     if (this.stopping && !this.lost) await this.renew();
+  }
+
+  /** Does one thing; if the server was started anew and doesn't know the session, once more in another one. */
+  async inSession(use) {
+    try {
+      await use();
+    } catch (fault) {
+      if (!fault.isUnknown || this.stopping) throw fault;
+      await this.openSession();
+      await use();
+    }
   }
 
   /** After each change: the game in the address, who is proved to win the opening, and the page. */
@@ -88,17 +100,26 @@ class Play {
 
   stopClock() {
     clearInterval(this.clock);
-    this.thinking = null;
+    Object.assign(this, {thinking: null, progress: null});
     byId('seconds').textContent = '';
   }
 
   async letHexdMove() {
-    this.startClock(`thinks for ${COLOURS[this.game.mover]}`);
-    await this.game.generate();
-    this.stopClock();
+    const {game} = this, {at} = game, proof = provedAlong(game.tree.line)[at.number];
+    const known = knownMove(game, proof, this.strengths.even(game.size));
+    if (known) await game.playKnown(known);
+    else await this.search();
+    speakMove(game.at);
     await this.settle();
+    this.keeping.store.keep(this.game.tree);
     // A click that came meanwhile has its turn between two moves of hexd's against itself.
     if (this.waiting.length && this.players.b === this.players.w) this.running = false;
+  }
+
+  async search() {
+    this.startClock(`thinks for ${COLOURS[this.game.mover]}`);
+    await this.searching(() => this.game.generate());
+    this.stopClock();
   }
 
   /** Ends what hexd does: its process goes, and another one takes the game over. */
@@ -112,10 +133,34 @@ class Play {
   async renew() {
     this.stopping = false;
     try {
-      this.game.renew(await Session.open(byId('strength').value));
+      await this.openSession();
     } catch (fault) {
       await this.fail(fault);
     }
+  }
+
+  /** What the clock gives a move, if hexd plays by one; else null. */
+  get pace() { return this.strengths.pace(strengthOf(), this.game.size); }
+
+  /** The options of hexd that are wanted now. */
+  get options() { return this.strengths.options(strengthOf(), this.game.size); }
+
+  /** Opens a session of a hexd with the options that are wanted. */
+  async openSession() {
+    const {options} = this;
+    this.game.renew(await Session.open(options), options);
+  }
+
+  /** Has hexd search with the options that are wanted: in another session, if the one that is there has others. */
+  async searching(search) {
+    const {game, options} = this;
+    if (optionText(game.options) !== optionText(options)) {
+      await game.session.close();
+      await this.openSession();
+    }
+    const before = game.took;
+    await search();
+    if (game.took !== before) this.pace?.took(game.took.milliseconds);
   }
 
   async fail(fault) {
@@ -123,6 +168,8 @@ class Play {
       if (!this.stopping) Object.assign(this, {lost: fault.message, full: Boolean(fault.full)});
     } else if (fault instanceof Refused) {
       this.message.say(`hexd: ${fault.message}`);
+    } else if (fault.isTold) {
+      this.message.say(fault.message);
     } else {
       this.message.say(`The page has a fault: ${fault.message}`);
       // The console has it too, and the page goes on.
@@ -141,9 +188,13 @@ class Play {
     }, true);
   }
 
-  /** One move back; against hexd as many as lead to a move of mine. */
+  /** One move back, or a resignation; against hexd as many moves as lead to a move of mine. */
   async undo() {
     const {game} = this, {b, w} = this.players;
+    if (game.at.end) {
+      game.at.end = null;
+      return;
+    }
     if (game.at.parent) await game.goTo(game.at.parent);
     if (b !== w && this.isHexdsTurn && game.at.parent) await game.goTo(game.at.parent);
   }
@@ -159,16 +210,27 @@ class Play {
 
   begin(size) {
     this.stop();
-    this.act(() => this.take(new Tree(size)), true);
+    this.act(() => this.take(newGame(size)), true);
   }
 
-  /** Opens a record, of whatever program. */
+  /** Saves the game, once hexd has said how its line ends. */
+  async save() {
+    const {tree} = this.game, {players} = this;
+    await this.game.learn(tree.line.at(-1)).catch(fault => { if (!(fault instanceof Refused)) throw fault; });
+    const nameOf = colour => (players[colour] === 'hexd' ? `hexd (${strengthName()})` : HUMAN);
+    const record = () => savedRecord(tree, {b: nameOf('b'), w: nameOf('w')});
+    saveFile(savedName(), new Blob([`${byId('save-remarks').checked ? withRemarks(tree, record) : record()}\n`]));
+  }
+
+  /** Opens a record, of whatever program, or a certificate. */
   open(blob) {
     this.stop();
     return this.act(async () => {
-      const {record, notes} = await Session.convert(await blob.arrayBuffer()), {tree, notes: more} = treeOfRecord(record);
+      const text = recordText(await blob.arrayBuffer());
+      if (isCertificate(text)) return openCertificate(this, text, blob.name);
+      const {tree, notes} = treeOfRecord(text);
       await this.take(tree);
-      this.message.say([...notes, ...more].join(' '));
+      this.message.say(notes.join(' '));
     });
   }
 
@@ -192,18 +254,23 @@ class Play {
     for (const position of line) {
       if (position.thought) continue;
       this.startClock(`looks at position ${position.number + 1} of ${line.length}`);
-      await this.game.think(position);
+      await this.searching(() => this.game.think(position));
+      this.keeping.store.keep(this.game.tree);
     }
   }
 
+  /** Who wins, by the solver: what it has done so far is told, and stays if it is stopped. */
   async prove() {
     this.startClock('solves this position');
-    await this.game.solve(this.game.at, BUDGET);
+    await prove(this.game, this.game.at, text => {
+      this.progress = text;
+      this.draw();
+    });
   }
 
   async hint() {
     this.startClock(`thinks for ${COLOURS[this.game.mover]}`);
-    await this.game.think(this.game.at);
+    await this.searching(() => this.game.think(this.game.at));
   }
 
   /** Tries again after a session was lost, or could not be had. */
@@ -217,14 +284,14 @@ class Play {
 
   /** Opens a session for the game: the one that is there, and at the start of the page the one of the address. */
   async enter() {
-    if (!this.settings) {
-      this.settings = await Session.settings();
-      this.drawStrengths(this.settings);
+    if (!this.strengths) {
+      this.strengths = new Strengths(await Session.settings());
+      this.strengths.draw();
       kept.restore();
     }
-    this.game.renew(await Session.open(byId('strength').value));
+    await this.openSession();
     if (this.entered) return this.game.hold(this.game.at);
-    const {state, hash} = {state: history.state, hash: location.hash}, tree = this.keeping.treeOf(state);
+    const {state, hash} = {state: history.state, hash: location.hash}, tree = await this.keeping.treeOf(state);
     this.entered = true;
     if (tree) await this.game.take(tree);
     else if (hash.length > 1) await this.game.take(treeOfMoves(gameOfText(hash, this.game.size)));
@@ -238,19 +305,10 @@ class Play {
     if (this.lost) this.entered = false;
     this.stop();
     this.act(async () => {
-      const tree = this.keeping.treeOf(state);
+      const tree = await this.keeping.treeOf(state);
       if (tree) await this.game.take(tree);
       else if (location.hash.length > 1) await this.game.take(treeOfMoves(gameOfText(location.hash, this.game.size)));
     });
-  }
-
-  /** The strengths, with the one that the page was started with where it is none of them. */
-  drawStrengths({playouts}) {
-    const select = byId('strength');
-    if (![...select.options].some(({value}) => Number(value) === playouts)) {
-      select.prepend(htmlElement('option', {value: playouts}, `as started (${grouped(playouts)})`));
-    }
-    select.value = playouts;
   }
 
   async start() {

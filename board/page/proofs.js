@@ -25,6 +25,18 @@ class Following {
     else entry.parts.forEach(part => this.hold(part));
   }
 
+  /** The same, of which a change leaves this one as it is. */
+  get copy() {
+    const {held, hurt, mine} = this;
+    return Object.assign(Object.create(Following.prototype), {held: [...held], hurt: [...hurt], mine: new Set(mine)});
+  }
+
+  /** What is left after the other player's stone; null where the proof doesn't hold any more. */
+  after(cell) {
+    const {copy} = this;
+    return copy.meet(cell) ? copy : null;
+  }
+
   /** The other player's stone; false where the proof doesn't hold any more. */
   meet(cell) {
     this.hurt = this.hurt.map(({entry, left}) => ({entry, left: left.filter(part => !part.has(cell))}));
@@ -50,12 +62,33 @@ class Following {
       if (played) played.parts.forEach(part => this.hold(part));
       else this.hurt.push({entry, left});
     }
+    this.narrow();
     return this.hurt.every(({left}) => left.length);
   }
 
+  /** A choice whose player has a stone on one line's cell is that line's parts. */
+  narrow() {
+    for (const entry of this.held.splice(0)) {
+      const played = entry.parts.find(({cell}) => this.mine.has(cell));
+      if (played) played.parts.forEach(part => this.hold(part));
+      else this.held.push(entry);
+    }
+  }
+
   /** The cells by which the player answers now; none where any move is good. */
-  get answers() { return this.hurt.length === 1 ? this.hurt[0].left.map(({cell}) => cell) : []; }
+  get answers() { return this.hurt.length === 1 ? [...new Set(this.hurt[0].left.map(({cell}) => cell))] : []; }
+
+  /** A cell by which the player goes on if no answer is due: that of the line with the fewest cells; null if all is linked. */
+  get free() {
+    const lines = this.held.flatMap(({parts}) => parts).sort((one, two) => sizeOfMask(one.mask) - sizeOfMask(two.mask));
+    return lines[0]?.cell ?? null;
+  }
 }
+
+const sizeOfMask = mask => mask.toString(2).replaceAll('0', '').length;
+
+/** What a proof's player follows from its position on; null if the proof has no certificate, or has his move first. */
+const strategyOf = ({following, claimed, cell}) => following ?? (claimed && !cell ? new Following(claimed) : null);
 
 /** What is proved of a position by what was said of it: {player, number, swap, cell, kind, claimed}, or null. */
 function provedHere({thought, solved, opening, number}) {
@@ -101,16 +134,25 @@ function carriedOn(proof, {colour, move}) {
     after.following = new Following(claimed);
     if (cell) return after;
   } else {
-    after.following = proof.following;
+    after.following = proof.following.copy;
   }
-  // A line is followed once from its beginning: what is followed may change.
   const good = mover ? after.following.answer(move) : after.following.meet(move);
   if (!good) return null;
   return {...after, answers: after.following.answers};
 }
 
+// So many answers to what the other player may do are told; the board shows all.
+const MOST_REPLIES = 4;
+
+/** How the winner answers what the other player may do: ` White answers b4 by c3, a2 by b2 ..`; nothing if it isn't known. */
+function replyWords({player}, replies) {
+  const told = [...replies].slice(0, MOST_REPLIES).map(([cell, answers]) => `${cell} by ${answers.join(' or ')}`);
+  if (!told.length) return '';
+  return ` ${COLOURS[player]} answers ${told.join(', ')}${replies.size > told.length ? ' ..; the board has all' : ''}.`;
+}
+
 /** What is proved, in words: `Black has lost: White's certificate of move 52.` */
-function proofWords({player, number, kind, here, swap, answers}, {mover}) {
+function proofWords({player, number, kind, here, swap, answers}, {mover}, replies = new Map()) {
   const mine = COLOURS[player], his = COLOURS[other(player)], unless = swap ? ' unless White swaps' : '';
   if (kind === 'opening') return `${mine} wins${swap ? ', unless White swaps' : ''}: a certificate of this opening.`;
   if (kind === 'lost') {
@@ -119,5 +161,6 @@ function proofWords({player, number, kind, here, swap, answers}, {mover}) {
   }
   const of = here ? 'a certificate of this position' : `${mine}'s certificate of move ${number + 1}`;
   const how = mover === player && answers.length && !here ? ` It answers ${answers.join(' or ')}.` : '';
-  return mover === player ? `${mine} wins${unless}: ${of}.${how}` : `${his} has lost${unless}: ${of}.`;
+  if (mover === player) return `${mine} wins${unless}: ${of}.${how}`;
+  return `${his} has lost${unless}: ${of}.${replyWords({player}, replies)}`;
 }

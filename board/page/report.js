@@ -15,9 +15,17 @@ const MOST_LOSSES = 5;
 
 const moveWords = ({colour, move}) => `${COLOURS[colour]} ${move === SWAP ? 'swaps' : move}`;
 
+/** Who is proved to win a position, with whether White may still swap: {player, swap}, or null. The solver's word is one of
+    stones, and a proof of White's holds with a swap or without. */
+function winnerAt(at) {
+  const proof = proofs[at], solved = report.positions[at]?.solved;
+  if (proof || !solved) return proof;
+  return {player: solved, swap: Boolean(report.thoughts[at]?.swap) && solved === 'b'};
+}
+
 /** The share of wins for Black in a position: {value, proved, swap}, or null. */
 function shareAt(at) {
-  const {winner} = report.positions[at], proof = proofs[at], thought = report.thoughts[at];
+  const {winner} = report.positions[at], proof = winnerAt(at), thought = report.thoughts[at];
   if (winner) return {value: winner === 'b' ? 1 : 0, proved: true};
   if (proof) return {value: proof.player === 'b' ? 1 : 0, proved: true, swap: proof.swap};
   return thought && blackShare(thought);
@@ -26,25 +34,29 @@ function shareAt(at) {
 /** What a move made of the share of wins of who moved: {before, after, loss}, where both are known. */
 function lossAt(at) {
   const {step} = report.positions[at], [before, after] = [shareAt(at), shareAt(at + 1)];
-  // A share that a swap may turn around says nothing of what a move lost.
-  if (!before || !after || before.swap || after.swap || step.move === SWAP) return {before, after, loss: null};
+  // A share that a swap may turn around says nothing of what a move lost, nor does a step from a guess to a proof or back.
+  const isGuess = [before, after].map(share => !share?.proved);
+  if (!before || !after || before.swap || after.swap || step.move === SWAP || isGuess[0] !== isGuess[1]) {
+    return {before, after, loss: null};
+  }
   const of = share => (step.colour === 'b' ? share.value : 1 - share.value);
   return {before, after, loss: of(before) - of(after)};
 }
 
 /** What the record's own move makes of what hexd proved: `[words]` where it is proved to be bad, else none. */
 function faults(at) {
-  const {step} = report.positions[at], thought = report.thoughts[at], [before, after] = [proofs[at], proofs[at + 1]];
+  const {step} = report.positions[at], thought = report.thoughts[at], [before, after] = [winnerAt(at), winnerAt(at + 1)];
   if (!step || !thought || thought.mover !== step.colour) return [];
   // Who has lost by a proof can't lose more.
   if (before && before.player !== step.colour) return [];
   // What is proved is of stones: a first move that would have been swapped gives nothing away, and a swap is no stone.
   if (thought.swap && (thought.mover === 'b' || step.move === SWAP)) return [];
-  if (thought.win && after && after.player !== step.colour) return ['This move gives the win away.'];
+  const said = [];
   if (!thought.win && !thought.lost && thought.threats.length && !thought.allowed.has(step.move)) {
-    return [`This move is outside a threat: after it ${COLOURS[other(step.colour)]} wins.`];
+    said.push(`This move is outside a threat: after it ${COLOURS[other(step.colour)]} wins.`);
   }
-  return [];
+  if (before && after && after.player !== step.colour) said.push('This move gives the win away.');
+  return said;
 }
 
 function drawBoard(view, at) {
@@ -60,10 +72,13 @@ function drawBoard(view, at) {
   view.show(shown);
 }
 
+const solvedWordsOf = ({player, swap}) => `Solved: ${COLOURS[player]} wins${swap ? ' unless White swaps' : ''}.`;
+
 function wordsOf(at) {
   const {winner, step} = report.positions[at], thought = report.thoughts[at], proof = proofs[at], said = [];
   const add = (text, name = '') => said.push(htmlElement('p', {class: name}, text));
   if (winner) add(`${COLOURS[winner]} has won.`, 'proved');
+  else if (!proof && winnerAt(at)) add(solvedWordsOf(winnerAt(at)), 'proved');
   if (at === 1 && report.opening) {
     add(`Proved: after this opening ${COLOURS[report.opening]} wins, unless White swaps.`, 'proved');
   } else if (proof && !proof.here && !winner) {

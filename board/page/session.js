@@ -3,11 +3,16 @@
 // asks of a network stands in this file. Another class Session with the same interface may take its place, as one whose hexd
 // runs in the page itself.
 
-/** The session is no more, or the server isn't there; the message says why. `full`: `Session.makeRoom` may help. */
+/** The session is no more, or the server isn't there; the message says why. `full`: `Session.makeRoom` may help.
+ *  `isUnknown`: the server doesn't know the session, for it was started anew. */
 class SessionLost extends Error {}
 
 /** hexd, or the server, refused a request; the message is its line. */
 class Refused extends Error {}
+
+// What stays to be done with a page whose token the server doesn't take.
+const EARLIER = 'This page is of an earlier start of bin/hexd-board. Open the address that it prints now, and paste this ' +
+  'page\'s address into its \'Link or moves\': it has the game.';
 
 /** Sends a request below the address of the page, and gives the text that answers it. */
 async function request(method, path, body) {
@@ -15,12 +20,23 @@ async function request(method, path, body) {
   try {
     response = await fetch(path, {method, body});
   } catch {
-    throw new SessionLost('The server does not answer. Is bin/hexd-board still running?');
+    throw new SessionLost('The server does not answer. Is bin/hexd-board still running? The game is in this page: start it anew.');
   }
   const text = (await response.text()).trimEnd();
   if (response.ok) return text;
-  if (response.status === 429) throw Object.assign(new SessionLost(`The server has no place: ${text}.`), {full: true});
-  throw [404, 410].includes(response.status) ? new SessionLost(`The session has ended: ${text}.`) : new Refused(text);
+  throw faultOf(response.status, text);
+}
+
+/** What a request meets that isn't done, by its status and line. `isTold`: the message is all that there is to say. */
+function faultOf(status, text) {
+  switch (status) {
+    case 403: return new SessionLost(EARLIER);
+    case 404: return Object.assign(new SessionLost(`The session has ended: ${text}.`), {isUnknown: true});
+    case 410: return new SessionLost(`The session has ended: ${text}.`);
+    case 429: return Object.assign(new SessionLost(`The server has no place: ${text}.`), {full: true});
+    case 500: return Object.assign(new Error(`The server: ${text}`), {isTold: true});
+    default: return new Refused(text);
+  }
 }
 
 /** The text of an answer of HTP, behind `=` and a space; Refused with it where it is a failure. */
@@ -33,17 +49,14 @@ function answered(answer) {
 class Session {
   constructor(name) { this.path = `session/${name}`; }
 
-  /** How hexd is started where nothing else is said: {playouts, weight, workers}, numbers. */
+  /** board/settings.json as `table`, the options that the server was `started` with, if any, and how many `workers` search. */
   static async settings() { return JSON.parse(await request('GET', 'settings')); }
 
-  /** Opens a session whose searches have so many playouts; without a number as many as the settings say. */
-  static async open(playouts = '') { return new Session(await request('POST', 'session', `${playouts}`)); }
+  /** Opens a session of a hexd with these options. */
+  static async open(options) { return new Session(await request('POST', 'session', optionText(options))); }
 
   /** Ends the session that was not used for the longest time, so that there is room for one more. */
   static async makeRoom() { await request('POST', 'room'); }
-
-  /** The bytes of a record, of whatever program, in hexd's form: {record, notes}, a text and sentences; or Refused. */
-  static async convert(bytes) { return JSON.parse(await request('POST', 'convert', bytes)); }
 
   /** Who is proved to win after Black's first stone, by the cells of a size for which that is known: 'black' or 'white'. */
   static async winners(size) { return JSON.parse(await request('GET', `openings/${size}`)); }
@@ -76,6 +89,7 @@ class Session {
   /** What `hexd solve` says of the position of a record, by a process of its own, which `close` ends too. */
   async solve(record, budget) { return request('POST', `${this.path}/solve/${budget}`, record); }
 
-  /** Ends the session, also while the page goes away. Who waits for an answer meets SessionLost. */
-  close() { fetch(this.path, {method: 'DELETE', keepalive: true}).catch(() => {}); }
+  /** Ends the session, also while the page goes away; the promise is kept once it has ended. Who waits for an answer meets
+      SessionLost. */
+  close() { return fetch(this.path, {method: 'DELETE', keepalive: true}).catch(() => {}); }
 }

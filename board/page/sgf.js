@@ -1,16 +1,20 @@
 'use strict';
-// Text of records (SGF): reads a text in hexd's form into nodes with their properties, and writes them. It knows no game.
+// Text of records (SGF): reads a text into nodes with their properties, and writes them. It knows no game.
 
 /** A node of a record: its properties, each a name with its values as they stand in the text, and the nodes that follow. */
 const sgfNode = (properties = {}) => ({properties, children: []});
 
+/** Of a name's letters the small ones don't count, as older records have them, unless all are small. */
+const sgfName = name => name.replace(/[a-z]/g, '') || name.toUpperCase();
+
 /** The first tree of a text: {root, trees, isWhole}, with how many trees there are, and whether the first one ends; root is null
-    if there is none, or none with a property. */
+    if there is none, or none with a property: other files have `(;` too. */
 function readSgf(text) {
-  const below = [];
+  const below = [], begin = text.search(/\(\s*;/);
+  if (begin < 0 || text.includes('\0')) return {root: null, trees: 0, isWhole: false};
   let root = null, node = null, last = null, trees = 0, hasProperty = false, isWhole = false;
   // A bracket alone is that of a value without an end.
-  for (const [token] of text.matchAll(/\[(?:\\[^]|[^\]\\])*\]|[A-Z]+|[();[]/g)) {
+  for (const [token] of text.slice(begin).matchAll(/\[(?:\\[^]|[^\]\\])*\]|[A-Za-z]+|[();[]/g)) {
     if (token === '[') break;
     if (token === '(') {
       if (!below.length) trees++;
@@ -27,7 +31,7 @@ function readSgf(text) {
       node?.children.push(made);
       [node, last] = [made, null];
     } else if (token[0] !== '[') {
-      last = token;
+      last = sgfName(token);
     } else if (node && last) {
       (node.properties[last] ??= []).push(token.slice(1, -1));
       hasProperty = true;

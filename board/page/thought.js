@@ -6,8 +6,9 @@
  * Reads the answers. `mover` is 'b' or 'w', `cell` the move that hexd chose; answers that failed are null. What hexd proves
  * is of stones; `swap` says that White may still swap, by this move or by the next.
  */
-function readThought({mover, cell, swap, mustplay, report, certificate, checked}) {
+function readThought({mover, cell, swap, mustplay, report, look, certificate, checked}) {
   const thought = {mover, cell, swap, certificate, checked, win: false, lost: false, allowed: null, threats: [], rows: []};
+  thought.isLook = Boolean(look);
   for (const line of mustplay.split('\n')) {
     const [word, ...rest] = line.split(' ');
     if (word === 'win') thought.win = true;
@@ -15,7 +16,10 @@ function readThought({mover, cell, swap, mustplay, report, certificate, checked}
     if (word === 'allowed') thought.allowed = new Set(rest);
     if (word === 'threat') thought.threats.push(rest);
   }
-  if (report) {
+  if (look) {
+    thought.rows = lookRows(look);
+    thought.playouts = Math.max(1, thought.rows.reduce((sum, [, nodes]) => sum + nodes, 0));
+  } else if (report) {
     const [first, ...rows] = report.split('\n');
     thought.playouts = Number(first.split(' ')[1]);
     thought.rows = rows.map(row => row.split(' ')).map(([vertex, visits, won]) => [vertex, Number(visits), Number(won)]);
@@ -24,9 +28,17 @@ function readThought({mover, cell, swap, mustplay, report, certificate, checked}
   return thought;
 }
 
-/** The visits of each cell among which was searched. */
-function visitsOf(thought) {
-  return new Map(thought.rows.map(([vertex, visits, won]) => [vertex, {visits, won, share: visits / thought.playouts}]));
+/** The rows of a look-ahead (look-report), in the form of a search's: nodes stand for visits, and its value, from 0 to 1,000,
+    for the share of them that was won. What is known to be won or lost is worth all or nothing. */
+function lookRows(look) {
+  const known = {won: 1, lost: 0};
+  return look.split('\n').filter(row => /^[a-k]\d+ \d/.test(row)).map(row => row.split(' '))
+    .map(([vertex, nodes, value, state]) => [vertex, Number(nodes), Number(nodes) * (known[state] ?? Number(value) / 1000)]);
+}
+
+/** The visits of each cell among which was searched, or the nodes of a look-ahead. */
+function visitsOf({rows, playouts, isLook}) {
+  return new Map(rows.map(([vertex, visits, won]) => [vertex, {visits, won, share: visits / playouts, isLook}]));
 }
 
 /** The cells outside the allowed ones; none where there is no threat, or where the board is lost. */
@@ -65,7 +77,9 @@ function thoughtWords(thought) {
   }
   if (thought.lost) {
     const threats = counted(thought.threats.length, 'threat');
-    said.push(`${mine} loses with every move${butSwap}: no cell lies in each of ${his}'s ${threats}.`);
+    // One threat leaves its own cells: a board that is lost by one is lost by the solver's certificate.
+    const bySolver = `the solver has a certificate for ${his}`, byThreats = `no cell lies in each of ${his}'s ${threats}`;
+    said.push(`${mine} loses with every move${butSwap}: ${thought.threats.length > 1 ? byThreats : bySolver}.`);
   } else if (thought.threats.length) {
     said.push(`${his} has ${counted(thought.threats.length, 'threat')}: a stone outside the ${
       counted(thought.allowed.size, 'allowed cell')} loses.`);
@@ -73,7 +87,10 @@ function thoughtWords(thought) {
     said.push(`hexd sees no threat of ${his}'s, and searched all ${counted(thought.rows.length, 'cell')}.`);
   }
   const row = thought.rows.find(([vertex]) => vertex === thought.cell);
-  if (row) {
+  if (row && thought.isLook) {
+    said.push(`${thought.cell} has ${grouped(row[1])} of ${counted(thought.playouts, 'node')} of the look-ahead${
+      row[1] ? `, which gives ${mine} ${percent(row[2] / row[1])}` : ''}.`);
+  } else if (row) {
     said.push(`${thought.cell} has ${grouped(row[1])} of ${counted(thought.playouts, 'visit')}${
       row[1] ? `; ${mine} won ${percent(row[2] / row[1])} of them` : ''}.`);
   }
@@ -89,7 +106,8 @@ function bestTable(thought) {
   if (!best.length) return null;
   const cells = (tag, ...texts) => htmlElement('tr', {}, ...texts.map(text => htmlElement(tag, {}, text)));
   const rows = best.map(([vertex, visits, won]) => cells('td', vertex, grouped(visits), percent(won / visits)));
-  const head = cells('th', 'Move', 'Visits', `${COLOURS[thought.mover]} wins`);
+  const head = cells('th', 'Move', thought.isLook ? 'Nodes' : 'Visits',
+    `${thought.isLook ? 'Worth to ' : ''}${COLOURS[thought.mover]}${thought.isLook ? '' : ' wins'}`);
   return htmlElement('table', {class: 'best'}, htmlElement('thead', {}, head), htmlElement('tbody', {}, ...rows));
 }
 
@@ -101,15 +119,22 @@ function readSolved(first, certificate, checked, mover, swap) {
   return {first, certificate, checked, proof, mover, swap, winner, cell: proof?.claimed.cell ?? null, win: winner === mover};
 }
 
-/** What the solver said, as a sentence. */
-function solvedWords({first, winner, cell, proof, mover}) {
+/** What the solver said, as sentences. `even` is an opening near even, if one is known. */
+function solvedWords({first, winner, cell, proof, mover, swap}, even) {
   const [word, , ...rest] = first.split(' '), name = COLOURS[winner];
+  // What is solved is of stones: a win of Black's holds unless White swaps.
+  const won = `Solved: ${swap && winner === 'b' ? 'without a swap ' : ''}${name} wins`;
+  const more = swap ? ` ${swapMeans({mover, winner}, even)}` : '';
   if (word === 'won') {
     const lines = counted(proof.lines.length, 'line');
-    return cell ? `Solved: ${name} wins by ${cell}, against every reply (${lines}).`
-      : `Solved: ${name} wins, whatever ${COLOURS[mover]} plays (${lines}).`;
+    return `${won}${cell ? ` by ${cell}, against every reply` : `, whatever ${COLOURS[mover]} plays`} (${lines}).${more}`;
   }
-  if (word === 'unknown') return `The solver entered ${grouped(first.split(' ')[1])} positions and did not come to an end.`;
-  if (word === 'too') return `Solved: ${name} wins; the certificate would have ${grouped(rest[1])} lines, too many.`;
+  if (word === 'too') return `${won}; the certificate would have ${grouped(rest[1])} lines, too many.${more}`;
   return winner ? `${name} has won.` : `The solver's answer: ${first}.`;
+}
+
+/** What a swap that is open makes of a position of which it is known who wins by the stones. */
+function swapMeans({mover, winner}, even) {
+  if (mover === 'w') return winner === 'b' ? 'So White swaps, and wins.' : 'So White does not swap.';
+  return `White takes over a first stone that wins: best is one of which it is least sure${even ? `, as ${even}` : ''}.`;
 }

@@ -4,10 +4,6 @@
 
 /** The property of a node that says that the game stood there when the record was saved. */
 const HERE = 'HERE';
-const ENDINGS = ['resign', 'forfeit'];
-const CELL = /^[a-k][1-9][0-9]?$/;
-// The properties that set stones or take them away.
-const SETUP = ['AB', 'AW', 'AE'];
 
 /** A position: the step that led to it ({colour, move}; null at the start), and all that is known of it. */
 class Position {
@@ -16,16 +12,20 @@ class Position {
     Object.assign(this, {tree, parent, step, properties, children: [], seen: null, end: null});
     // What hexd and the solver said.
     Object.assign(this, {facts: null, thought: null, solved: null});
+    // Why hexd made the step without a search, or against it.
+    this.why = null;
     this.number = parent ? parent.number + 1 : 0;
   }
 
   /** The position after this one on its line; null at its end. */
   get next() { return this.seen ?? this.children[0] ?? null; }
 
-  /** Who is to move: Black first, and then whoever did not move last. */
+  /** Who is to move: whoever did not move last, and at first whom the record names, else Black if his stones aren't more. */
   get mover() {
     if (this.step) return other(this.step.colour);
-    const {start} = this.tree, black = start.filter(([colour]) => colour === 'b').length;
+    const {start, root: {properties: {PL: [named = ''] = []}}} = this.tree, colour = named.trim().toLowerCase()[0];
+    if (colour in COLOURS) return colour;
+    const black = start.filter(([colour]) => colour === 'b').length;
     return 2 * black > start.length ? 'w' : 'b';
   }
 
@@ -52,6 +52,13 @@ class Tree {
     return line;
   }
 
+  /** All positions, each before those after it. */
+  get positions() {
+    const found = [this.root];
+    for (const position of found) found.push(...position.children);
+    return found;
+  }
+
   get steps() { return this.at.path.slice(1).map(({step}) => step); }
 
   /** The position after a move from another one: a new side line where it was not played there yet. */
@@ -69,12 +76,15 @@ class Tree {
     for (const node of position.path) if (node.parent) node.parent.seen = node;
   }
 
+  /** Whether a position is the start of a game without stones. */
+  isFirst(position) { return position === this.root && !this.start.length; }
+
   get isEmpty() { return !this.start.length && !this.root.children.length; }
 }
 
 /** The tree of moves in a row, which stands behind so many of them. */
 function treeOfMoves({size, start, steps, position = steps.length}) {
-  const tree = new Tree(size, start);
+  const tree = start.length || steps.length ? new Tree(size, start) : newGame(size);
   let at = tree.root;
   const line = [at, ...steps.map(step => { at = tree.after(at, step); return at; })];
   tree.goTo(at);
@@ -82,12 +92,8 @@ function treeOfMoves({size, start, steps, position = steps.length}) {
   return tree;
 }
 
-/** The stones of the start. hexd also reads cells in capitals. */
-function stonesIn({AB = [], AW = []}) {
-  const wrong = [...AB, ...AW].find(vertex => !CELL.test(vertex.toLowerCase()));
-  if (wrong !== undefined) throw new Refused(`a stone of the start lies on no cell: '${wrong.slice(0, 20)}'`);
-  return [...AB.map(vertex => ['b', vertex.toLowerCase()]), ...AW.map(vertex => ['w', vertex.toLowerCase()])];
-}
+/** The stones of the start, of a root in hexd's form. */
+const stonesIn = ({AB = [], AW = []}) => [...AB.map(vertex => ['b', vertex]), ...AW.map(vertex => ['w', vertex])];
 
 /** Adds what stands in a node without a move to the position before it; `left` gets the names of what has no place there. */
 function mergeProperties(position, properties, left) {
@@ -98,57 +104,29 @@ function mergeProperties(position, properties, left) {
   }
 }
 
-/** The tree of a record in hexd's form, and sentences on what of it is left out: {tree, notes}. Refused if it isn't in it. */
+/** The tree of a record of whatever program, and sentences on what of it is changed or left out: {tree, notes}; or Refused. */
 function treeOfRecord(text) {
-  const {root, trees, isWhole} = readSgf(text), left = new Set(), notes = [];
-  if (!root) throw new Refused('it is no record of a game');
-  const {FF, GM: [game] = ['11'], SZ: [size] = ['11'], AB, AW, B, W, [HERE]: isHere, ...properties} = root.properties;
-  if (game !== '11') throw new Refused(`it is a record of another game than Hex: GM[${game}]`);
-  const tree = new Tree(sizeOf(size), stonesIn({AB, AW}), properties);
-  let here = null;
-  const pending = [[tree.root, B || W ? {properties: {...B && {B}, ...W && {W}}, children: root.children} : root, true]];
+  const {root, size, notes} = readRecord(text), left = new Set(), {AB, AW, B, W, ...properties} = root.properties;
+  const tree = new Tree(size, stonesIn({AB, AW}), without(properties, ['FF', 'GM', 'SZ', HERE]));
+  const pending = [[tree.root, {properties: {...B && {B}, ...W && {W}}, children: root.children}]];
+  let here = HERE in properties ? tree.root : null;
   while (pending.length) {
-    const [parent, node, isMain] = pending.pop();
-    try {
-      const position = node === root ? parent : placed(tree, parent, node.properties, left);
-      if (HERE in node.properties) here = position;
-      const children = node.children.map((child, at) => [position, child, isMain && at === 0]);
-      pending.push(...children.reverse());
-    } catch (fault) {
-      if (isMain || !(fault instanceof Refused)) throw fault;
-      notes.push(`A side line is left out: ${fault.message}.`);
-    }
+    const [parent, {properties, children}] = pending.pop(), position = placed(tree, parent, properties, left);
+    if (HERE in properties) here = position;
+    pending.push(...children.map(child => [position, child]).reverse());
   }
   tree.goTo(endOf(tree.root));
   if (here) tree.goTo(here);
-  if (trees > 1) notes.push(`The file has ${trees} games; this is the first.`);
-  if (!isWhole) notes.push('The file breaks off in the record: what stands before that is opened.');
   if (left.size) notes.push(`Left out: ${[...left].join(', ')} of nodes without a move.`);
   return {tree, notes};
 }
 
-/** The size of the board in a record: a number, or the same one twice. */
-function sizeOf(text) {
-  const size = Number(/^(\d+)(?::\1)?$/.exec(text)?.[1]);
-  if (!(size >= 1 && size <= LETTERS.length)) throw new Refused(`size ${text}: hexd plays 1 to ${LETTERS.length}`);
-  return size;
-}
-
-/** The position that a node of a record leads to; Refused if it has what hexd doesn't read. */
-function placed(tree, parent, {B = [], W = [], ...properties}, left) {
-  delete properties[HERE];
-  const colour = B.length ? 'b' : 'w', [value, second] = [...B, ...W], word = value?.toLowerCase(), number = parent.number + 1;
-  const move = word === 'swap' ? SWAP : word;
-  if (second !== undefined) throw new Refused(`node ${number} has two moves`);
-  if (SETUP.some(name => name in properties)) {
-    throw new Refused(`stones are set or taken away at move ${number}, and hexd takes those of the start alone`);
-  }
+/** The position that a node of a record in hexd's form leads to. */
+function placed(tree, parent, {B, W, ...given}, left) {
+  const colour = B ? 'b' : 'w', [move] = B ?? W ?? [], properties = without(given, [HERE]);
   if (ENDINGS.includes(move)) parent.end = {colour, move, properties};
-  if (move === undefined || ENDINGS.includes(move)) {
-    mergeProperties(parent, ENDINGS.includes(move) ? {} : properties, left);
-    return parent;
-  }
-  if (move !== SWAP && !CELL.test(move)) throw new Refused(`move ${number} is no move: ${COLOURS[colour]} '${value.slice(0, 20)}'`);
+  if (move === undefined) mergeProperties(parent, properties, left);
+  if (move === undefined || ENDINGS.includes(move)) return parent;
   const position = tree.after(parent, {colour, move});
   mergeProperties(position, properties, left);
   return position;
@@ -170,14 +148,17 @@ function headOf({size, start}) {
   return head;
 }
 
-/** The text of all of a tree, with the position at which it stands. */
-function recordOfTree(tree) {
-  const root = sgfNode({...headOf(tree), ...tree.root.properties}), pending = [[tree.root, root]];
-  const isEnd = tree.at === endOf(tree.root);
+/**
+ * The text of all of a tree, with a mark at the position at which it stands. `head` has the other properties of the root,
+ * and `ordered` puts the moves after a position into the order of the text.
+ */
+function recordOfTree(tree, {head = tree.root.properties, isMarked = true, ordered = children => children} = {}) {
+  const root = sgfNode({...headOf(tree), ...head}), pending = [[tree.root, root]];
+  const isEnd = !isMarked || tree.at === endOf(tree.root);
   while (pending.length) {
     const [position, node] = pending.pop();
     if (position === tree.at && !isEnd) node.properties[HERE] = ['1'];
-    for (const child of position.children) {
+    for (const child of ordered(position.children)) {
       const made = sgfNode({...stepProperty(child.step), ...child.properties});
       node.children.push(made);
       pending.push([child, made]);

@@ -10,6 +10,7 @@ function wire(play) {
   wireChoices(play);
   wireFiles(play);
   wireSwitches(play);
+  wireHands(play);
   addEventListener('keydown', press);
   addEventListener('popstate', ({state}) => play.goBack(state));
   addEventListener('pagehide', () => play.game.session?.close());
@@ -54,10 +55,6 @@ function wireSwitches(play) {
   for (const id of ['player-b', 'player-w']) {
     byId(id).addEventListener('change', () => play.act(async () => {}, !play.game.at.next));
   }
-  byId('strength').addEventListener('change', () => play.act(() => {
-    play.game.session.close();
-    return play.renew();
-  }));
   new ResizeObserver(() => {
     play.panel.drawBoard();
     play.view.scale();

@@ -30,22 +30,31 @@ function openingWords(vertex, winner) {
   return `Proved: after Black's ${vertex} ${COLOURS[winner]} wins; a swap ${swap}.`;
 }
 
-/** What stands under 'What hexd thinks', as elements: what is proved first, then what hexd said. */
-function thoughtElements(game, proof, openings) {
+/** What stands under 'What hexd thinks', as elements: what is proved first, then what hexd said. `known` has `even`, an opening
+    near even, `replies`, the answers of the proof, and `progress`, what the solver has done so far. */
+function thoughtElements(game, proof, openings, {even, replies, progress}) {
   const {at, shown} = game, made = [], add = (text, name = '') => made.push(htmlElement('p', {class: name}, text));
   if (game.tree.isEmpty) {
     add(aimWords(game.size));
     if (openings) add(mapWords);
   }
   if (at.opening) add(openingWords(at.step.move, at.opening), 'proved');
-  else if (proof && !proof.here && !game.winner) add(proofWords(proof, {mover: game.mover}), 'proved');
-  if (at.solved) add(solvedWords(at.solved), at.solved.winner ? 'proved' : '');
+  else if (proof && !proof.here && !game.winner) add(proofWords(proof, {mover: game.mover}, replies), 'proved');
+  if (progress) add(`The solver: ${progress}.`, 'progress');
+  if (at.solved && !progress) {
+    const answers = proof?.here && !game.winner ? replyWords(proof, replies) : '';
+    if (at.solved.spent) add(unknownWords(at.solved));
+    else add(solvedWords(at.solved, even) + answers, at.solved.winner ? 'proved' : '');
+  }
+  if (at.why && !game.winner) add(at.why);
   if (shown) {
     const {thought, here} = shown, name = COLOURS[thought.mover];
     add(here ? `With ${name} to move here:` : `Of ${name}'s ${thought.cell}, move ${at.number}:`, 'of');
     thoughtWords(thought).forEach(text => add(text));
+    if (here && at.facts.canSwap && isSwapBetter(thought)) add(swapWords(thought));
+    if (here && even && game.tree.isFirst(at)) add(evenWords(even));
     made.push(...[bestTable(thought)].filter(Boolean));
-  } else if (!game.tree.isEmpty && !game.winner) {
+  } else if (!game.tree.isEmpty && !game.winner && !proof && !at.solved && !progress) {
     add('Of this position hexd has said nothing yet.', 'none');
   }
   return made;

@@ -158,7 +158,8 @@ class Browser:
     def saved(self, name):
         """The file of a download, once it is whole."""
         file = self.downloads / name
-        until(lambda: file.exists() and not list(self.downloads.glob("*.crdownload")), f"{name} is saved")
+        # A place for the name may be there before what is saved.
+        until(lambda: file.exists() and file.stat().st_size and not list(self.downloads.glob("*.crdownload")), f"{name} is saved")
         content = file.read_bytes()
         file.unlink()
         return content
@@ -168,7 +169,7 @@ class Browser:
 
     def forget(self):
         """What the page has kept is not for the next one."""
-        self.run("try { localStorage.clear() } catch { return }")
+        self.run("for (const store of ['localStorage', 'sessionStorage']) try { window[store].clear() } catch { continue }")
 
     def faults(self):
         """What the console says that is an error, since it was last asked."""

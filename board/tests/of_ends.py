@@ -51,6 +51,35 @@ class Ends(unittest.TestCase):
             self.assertLess(one.port, two.port)
             self.assertEqual(200, two.request("GET", "")[0])
 
+    def test_a_server_that_is_started_anew(self):
+        """Its address is as before, by a file that its user alone may read; by one of others it is another."""
+        with tempfile.TemporaryDirectory() as folder, socket.socket() as free:
+            free.bind(("127.0.0.1", 0))
+            port = str(free.getsockname()[1])
+            free.close()
+            environment = {"XDG_STATE_HOME": folder}
+
+            def address(port=port, *words):
+                with Server(port=("--port", port), words=words, environment=environment) as server:
+                    return server.address
+
+            first = address()
+            (file,) = Path(folder, "hexd").iterdir()
+            self.assertEqual((f"board-{port}.token", 0o600, 0o700), (file.name, file.stat().st_mode & 0o777, file.parent.stat().st_mode & 0o777))
+            self.assertEqual(first, address())
+            for change in (lambda: file.chmod(0o640), lambda: file.write_text("x"), file.unlink, lambda: to_link(file)):
+                change()
+                self.assertNotEqual(first, first := address())
+                self.assertEqual(0o600, file.lstat().st_mode & 0o777)
+            file.with_name("other").unlink()
+            # What others may put a file into keeps nothing, nor is a port kept that comes by chance, or a line that others read.
+            file.parent.chmod(0o777)
+            self.assertNotEqual(address(), address())
+            file.parent.chmod(0o700)
+            address("0"), address(port, "--listen", "0.0.0.0")
+            self.assertEqual([file], list(file.parent.iterdir()))
+            self.assertEqual(first, address())
+
     def test_on_this_machine_alone(self):
         with Server() as server, self.assertRaises(OSError):
             socket.create_connection(("127.0.0.2", server.port), LIMIT_SECONDS)
@@ -77,19 +106,26 @@ class Ends(unittest.TestCase):
         self.assertEqual((1, b"hexd-board: No space left on device\n"), (run.returncode, run.stderr))
 
     def test_what_it_searches_with(self):
-        for words, want in (
-            ([], {"playouts": 100_000, "weight": 0, "workers": min(4, len(os.sched_getaffinity(0)))}),
-            (["--playouts", "500", "--weight", "180", "--workers", "2"], {"playouts": 500, "weight": 180, "workers": 2}),
+        workers = min(4, len(os.sched_getaffinity(0)))
+        normal = {**settings.strength_options("normal", 11), "workers": workers}
+        few = {"playouts": 500, "weight": 180, "workers": 2}
+        for words, others, want, started in (
+            ([], [], normal, False),
+            (["--playouts", "500", "--weight", "180", "--workers", "2"], [], few, True),
+            # A word of the user's own stands in the place of a strength's.
+            ([], ["--look", "7"], {name: value for name, value in normal.items() if name != "look"}, False),
         ):
-            with Server(words=words, small=False) as server:
-                self.assertEqual(want, json.loads(server.request("GET", "settings")[1]))
+            with Server(*others, words=words, small=False) as server:
+                told = json.loads(server.request("GET", "settings")[1])
+                self.assertEqual((started, want["workers"]), (told["started"] is not None, told["workers"]))
                 session = server.session()
                 (pid,) = server.engines()
                 given = Path(f"/proc/{pid}/cmdline").read_text().split("\0")
-                self.assertEqual(set(settings.words_of(want)), {word for word in given if word.startswith("--")})
+                self.assertEqual({*settings.words_of(want), *others[:1]}, {word for word in given if word.startswith("--")})
                 self.assertEqual(200, server.request("DELETE", f"session/{session}")[0])
                 server.end()
-                self.assertIn(f"hexd searches {settings.told(want)}.", server.errors)
+                how = f"searches with {settings.told(want)}" if started else "plays at the strength 'normal'"
+                self.assertIn(f"hexd {how}", server.errors)
 
     def test_it_opens_a_browser(self):
         with tempfile.TemporaryDirectory() as folder:
@@ -117,7 +153,7 @@ class Ends(unittest.TestCase):
 
     def test_an_idle_session(self):
         with tempfile.TemporaryDirectory() as folder:
-            table = sessions.Sessions(hexd.PROGRAM, settings.BEST, [], folder)
+            table = sessions.Sessions(hexd.PROGRAM, settings.Given.of({**settings.BEST, "weight": None}), [], folder)
             idle, used = table.make(), table.make()
             table.open[idle].used -= sessions.IDLE_SECONDS + 1
             table.end_idle()
@@ -129,7 +165,14 @@ class Ends(unittest.TestCase):
             self.assertEqual([], os.listdir(folder))
 
 
-BEST = " ".join(settings.words_of(settings.BEST))
+BEST = " ".join(settings.words_of({**settings.strength_options("normal", 11), "workers": settings.BEST["workers"]}))
+
+
+def to_link(file):
+    """Puts a link to a file of the same text in its place."""
+    other = file.with_name("other")
+    file.rename(other)
+    file.symlink_to(other)
 
 
 def wrong(name, word, span):

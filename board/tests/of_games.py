@@ -2,11 +2,14 @@
 
 import os
 import re
+import resource
 import signal
+from pathlib import Path
 
 from selenium.webdriver.common.action_chains import ActionChains
 from selenium.webdriver.common.keys import Keys
 
+import settings
 from tests.pages import Pages
 from tests.support import Server, until
 
@@ -150,12 +153,68 @@ class Lasting(Pages):
         browser.click("#moves .side")
         self.soon("5,c3,b3,e5,d4,@3", self.link)
         browser.click("#save")
-        record = browser.saved("game.sgf")
-        self.assertEqual(b"(;FF[4]GM[11]SZ[5];B[c3];W[b3](;B[d2];W[a1])(;B[e5]HERE[1];W[d4]))\n", record)
+        record = self.saved_record()
+        self.assertEqual(b"(;FF[4]GM[11]SZ[5];B[c3];W[b3](;B[e5];W[d4])(;B[d2];W[a1]))\n", record)
         browser.click("#new")
         self.opened(record)
-        self.soon("5,c3,b3,e5,d4,@3", self.link)
+        # The line that was open is the first one, which each reader shows.
+        self.soon("5,c3,b3,e5,d4", self.link)
         self.soon(1, self.marks("#moves .side"))
+
+    def test_a_reload_keeps_what_hexd_said(self):
+        browser = self.start("4,d1,b3,a1")
+        browser.click("#moves li:nth-child(2) .move")
+        browser.cell("a4")
+        browser.click("#hint")
+        of_side_line = browser.text("#words")
+        self.assertNotIn("said nothing yet", of_side_line)
+        browser.click("#moves .side")
+        browser.click("#analyse")
+        self.soon(4, self.marks("#plot .mark"))
+        browser.click("#moves li:nth-child(2) .move")
+        browser.click("#prove")
+        looks = lambda: (self.link(), self.marks("#plot .mark")(), self.marks("#plot .mark.proved")(), *map(browser.text, (  # noqa: E731
+            "#words", "#claim", "#checked")), self.carrier(), browser.find("#plot").get_attribute("innerHTML"))
+        before = looks()
+        self.assertIn("Solved: Black wins by ", before[3])
+        self.assertTrue(before[2] and before[4] and before[6])
+        browser.reload()
+        self.soon(before, looks)
+        # A game that Back brings, and a side line, have it too.
+        browser.click("#new")
+        browser.reload()
+        browser.back()
+        self.soon(before, looks)
+        browser.click("#forth")
+        browser.click("#moves .side")
+        self.soon(of_side_line, self.words("#words"))
+        # What was kept of a proof is one: it is followed.
+        browser.click("#back")
+        browser.cell(browser.vertices("[data-vertex]:has(.chosen)")[0])
+        self.soon_in("certificate of move 3", "#words .proved")
+
+    def test_an_analysis_that_is_stopped_is_kept(self):
+        browser = self.start("11,f6,a1,b1,c1")
+        browser.run("""
+            const {game} = play, think = game.think.bind(game);
+            game.think = position => {
+              if (position.number === 2) byId('stop').click();
+              return think(position);
+            };""")
+        browser.click("#analyse")
+        self.browser.faults()
+        self.soon(2, self.marks("#plot .mark"))
+        browser.reload()
+        self.soon(2, self.marks("#plot .mark"))
+
+    def test_without_a_database(self):
+        """As in some private windows: the page is the same but for what a reload finds."""
+        browser = self.start("5,c3")
+        browser.run("indexedDB.open = () => { throw new Error('a test'); }; play.keeping.store.opened = undefined")
+        browser.click("#hint")
+        self.soon_in("of 200 visits", "#words")
+        browser.cell("a1")
+        self.soon(["c3", "a1"], self.moves)
 
     def test_back_brings_the_game_before(self):
         browser = self.start("5,c3,b3,d2,@2")
@@ -232,7 +291,7 @@ class Lasting(Pages):
 
     def test_choices_last_over_a_reload(self):
         browser = self.start("5,c3", players=("hexd", "I"))
-        browser.choose("#strength", "10000")
+        browser.choose("#strength", "quick")
         browser.click("#show-visits")
         browser.choose("#orientation", "flipped")
         browser.cell("a1")
@@ -241,25 +300,44 @@ class Lasting(Pages):
         browser.reload()
         value = lambda css: lambda: browser.find(css).get_attribute("value")  # noqa: E731
         self.soon("I", value("#player-w"))
-        self.soon("10000", value("#strength"))
+        self.soon("quick", value("#strength"))
         self.soon("flipped", value("#orientation"))
         self.assertFalse(browser.find("#show-visits").is_selected())
-        self.assertIn("10,000 playouts a move", browser.text("#strength-words"))
-        browser.choose("#strength", "200")
+        self.assertIn("look-ahead of 50 nodes, 1,000 playouts", browser.text("#strength-words"))
 
     def test_strengths(self):
-        browser = self.start("5,a1,e5,e1")
-        for playouts, name in (("10000", "10,000"), ("100000", "100,000")):
-            browser.choose("#strength", playouts)
-            self.soon_in(f"with {name} playouts a move", "#strength-words")
-            browser.click("#hint")
-            self.soon_in(f"of {name} visits", "#words")
-            browser.ready()
-        browser.choose("#strength", "1000000")
-        self.soon_in("s a move, as the last search went", "#strength-words")
+        """Each strength has the options of settings.json, also by the size of the board, and its process has them."""
+        # Positions that no strength decides: what is proved is not searched.
+        browser = self.start("8,a1,h8")
         options = [(option.get_attribute("value"), option.text) for option in browser.all("#strength option")]
-        want = [("200", "as started (200)"), ("10000", "quick"), ("100000", "normal"), ("1000000", "strong")]
+        want = [("started", "as started (200 playouts)"), ("quick", "quick"), ("normal", "normal"), ("strong", "strong")]
+        want += [(f"clock-{seconds}", f"{seconds} second{'s' * (seconds > 1)} a move") for seconds in (1, 5, 15, 60)]
         self.assertEqual(want, options)
+        for name, size in (("quick", 8), ("normal", 8), ("strong", 8), ("quick", 6)):
+            if size != 8:
+                browser = self.start(f"{size},a6")
+            browser.choose("#strength", name)
+            options = settings.strength_options(name, size)
+            self.assertEqual(settings.TABLE["strengths"][name]["solve"]["11" if size == 8 else "6"], options["solve"])
+            self.soon_in(f"look-ahead of {options['look']:,} nodes", "#strength-words")
+            browser.press("#hint")
+            wanted = {f"--{option}={value}" for option, value in options.items()}
+            until(lambda: [wanted <= words for words in self.words_of_engines()] == [True], f"there is one process with {wanted}")
+            # The others' searches are longer, and tell nothing more.
+            browser.run("if (arguments[0] !== 'quick') play.stop()", name)
+            browser.ready()
+            if name == "quick":
+                self.soon_in("as the last search went", "#strength-words")
+        browser.faults()
+
+    def words_of_engines(self):
+        found = []
+        for pid in self.server.engines():
+            try:
+                found.append(set(Path(f"/proc/{pid}/cmdline").read_text().split("\0")))
+            except OSError:
+                continue
+        return found
 
     def test_hexd_moves_after_a_reload(self):
         browser = self.start("4,b2,c3", players=("I", "I"))
@@ -290,6 +368,42 @@ class Lasting(Pages):
         browser.cell("a1")
         self.soon(["c3", "b3", "a1"], self.moves)
 
+    def test_a_full_disk(self):
+        """It is told as what it is, and the game goes on once there is room."""
+        browser, pid = self.start("5,c3,b3,d2"), self.server.process.pid
+        browser.run("play.game.held = null")
+        resource.prlimit(pid, resource.RLIMIT_FSIZE, (0, resource.RLIM_INFINITY))
+        browser.cell("a1")
+        self.soon_in("Nothing is lost: the game is in this page.", "#said")
+        self.assertIn("File too large", browser.text("#said"))
+        resource.prlimit(pid, resource.RLIMIT_FSIZE, (resource.RLIM_INFINITY, resource.RLIM_INFINITY))
+        self.browser.faults()
+        browser.cell("a1")
+        self.soon(["c3", "b3", "d2", "a1"], self.moves)
+
+    def test_a_server_that_is_started_anew(self):
+        """The page goes on by itself where its token is kept, and says what to do where it isn't."""
+        with Server() as free:
+            port = free.port
+        anew = lambda: Server(port=("--port", str(port)))
+        with anew() as server:
+            browser = self.start("5,c3,b3", server=server)
+        with anew():
+            browser.cell("a1")
+            self.soon(["c3", "b3", "a1"], self.moves)
+            browser.choose("#player-w", "hexd")
+            self.soon(4, lambda: len(self.moves()))
+        self.browser.faults()
+        with anew():
+            browser.cell("e5" if "e5" not in self.moves() else "e4")
+            self.soon(6, lambda: len(self.moves()))
+        Path(os.environ["XDG_STATE_HOME"], "hexd", f"board-{port}.token").unlink()
+        with anew():
+            browser.press("#hint")
+            self.soon_in("This page is of an earlier start of bin/hexd-board. Open the address that it prints now", "#alert")
+        self.browser.faults()
+        browser.driver.get("about:blank")
+
     def test_a_fault_of_the_page(self):
         """It is told, and the page goes on."""
         browser = self.start("5,c3")
@@ -317,9 +431,10 @@ class Lasting(Pages):
         self.soon("5,c3,b3,a1", self.link)
 
     def test_stop_ends_a_search(self):
-        with Server("--playouts", "1000000", "--hsearch", "off", "--workers", "1") as server:
+        with Server() as server:
             browser = self.start("11,f6", players=("I", "I"), server=server)
             self.assertFalse(browser.find("#stop").is_displayed())
+            self.halt(server)
             browser.press("#go")
             until(lambda: browser.find("#stop").is_displayed(), "there is Stop")
             self.soon("hexd thinks for White ..", self.words("#state"))
@@ -330,6 +445,7 @@ class Lasting(Pages):
             browser.ready()
             self.soon("", self.words("#said"))
             self.soon(["f6"], self.moves)
+            self.halt(server)
             browser.press("#analyse")
             self.soon("hexd looks at position 1 of 2 ..", self.words("#state"))
             browser.press("#stop")
@@ -340,6 +456,11 @@ class Lasting(Pages):
             self.soon(["f6", "a1"], self.moves)
             self.assertEqual(1, len(server.engines()))
             browser.driver.get("about:blank")
+
+    def halt(self, server):
+        """What its processes are asked for then has no end, however late a busy browser is."""
+        for pid in server.engines():
+            os.kill(pid, signal.SIGSTOP)
 
     def test_a_page_that_goes_ends_its_session(self):
         browser = self.start("3")

@@ -1,21 +1,78 @@
 """Records, links, copies and pictures."""
 
+import lzma
+from datetime import date
+
 from selenium.webdriver.common.keys import Keys
 
+from tests import table
+from tests.certificates import FULL, SEMI
 from tests.pages import Pages
-from tests.support import until
+from tests.support import ROOT, Server, until
+
+# What the page's reader makes of the bytes of a file.
+READ = """
+    try {
+        const {root, notes} = readRecord(recordText(Uint8Array.from(arguments[0])));
+        return [writeSgf(root), notes];
+    } catch (fault) {
+        return fault.message;
+    }"""
 
 
 class Records(Pages):
     def test_save_and_open(self):
         browser = self.start("4,b2,swap,c3,w-a1")
         browser.click("#save")
-        record = browser.saved("game.sgf")
+        record = self.saved_record()
         self.assertEqual(b"(;FF[4]GM[11]SZ[4];B[b2];W[swap-pieces];B[c3];W[a1])\n", record)
         browser.click("#new")
         self.soon([], self.moves)
         self.opened(record)
         self.soon("4,b2,swap,c3,a1", self.link)
+
+    def test_the_table(self):
+        """The page reads what reports and hexd-gtp read (of_conversion.py)."""
+        browser = self.start("3")
+        for given, text, notes in table.READ:
+            with self.subTest(given=given[:80]):
+                self.assertEqual([f"(;FF[4]GM[11]{text}", notes], browser.run(READ, list(given)))
+        for given, why in table.REFUSED:
+            with self.subTest(given=given[:80]):
+                self.assertEqual(why, browser.run(READ, list(given)))
+
+    def test_a_saved_game(self):
+        """The line that one is on is the first variation; who played, when, and how it ended."""
+        browser = self.start("4", players=("I", "I"))
+        for cell in ("a1", "c3"):
+            browser.cell(cell)
+        browser.click("#undo")
+        browser.cell("b3")
+        browser.click("#save")
+        head = f"(;FF[4]GM[11]SZ[4]PB[Human]PW[Human]DT[{date.today()}]AP[hexd]"
+        self.assertEqual(f"{head};B[a1](;W[b3])(;W[c3]))\n", self.saved_record().decode())
+        browser.click("#first")
+        for cell in ("b1", "a1", "b2", "a2", "b3", "a3", "b4"):
+            browser.cell(cell)
+        # Elsewhere on the line the record is the same.
+        browser.click("#back")
+        browser.choose("#player-w", "hexd")
+        browser.click("#save")
+        line = ";B[b1];W[a1];B[b2];W[a2];B[b3];W[a3];B[b4]"
+        head = head.replace("PW[Human]", "PW[hexd (200 playouts)]")
+        self.assertEqual(f"{head}RE[B+]({line})(;B[a1](;W[c3])(;W[b3])))\n", self.saved_record().decode())
+
+    def test_a_result_is_of_its_moves(self):
+        """A record's result goes once one plays on."""
+        browser = self.start()
+        self.opened(b"(;SZ[4]PB[Anna]RE[W+T];B[b2];W[c3])")
+        self.soon(1, self.marks("#record .result"))
+        browser.click("#save")
+        self.assertEqual(b"(;FF[4]GM[11]SZ[4]PB[Anna]RE[W+T];B[b2];W[c3])\n", self.saved_record())
+        browser.cell("a1")
+        self.soon(0, self.marks("#record .result"))
+        browser.click("#save")
+        self.assertEqual(b"(;FF[4]GM[11]SZ[4]PB[Anna];B[b2];W[c3];B[a1])\n", self.saved_record())
 
     def test_what_is_refused_says_why(self):
         browser = self.start("4,b2")
@@ -65,7 +122,7 @@ class Records(Pages):
         self.soon("Weak", self.words("#record .comment"))
         browser.click("#moves .side")
         browser.click("#save")
-        self.assertEqual(record + "\n", browser.saved("game.sgf").decode())
+        self.assertEqual(record + "\n", self.saved_record().decode())
 
     def test_a_record_of_another_program(self):
         browser = self.start()
@@ -81,6 +138,82 @@ class Records(Pages):
         self.soon("Left out: LB of nodes without a move.", self.words("#said"))
         browser.click("#back")
         self.soon("Later", self.words("#record .comment"))
+
+    def test_hexds_remarks_are_saved_if_asked_for(self):
+        browser = self.start("5")
+        self.opened(b"(;SZ[5]C[Begins];B[c3]C[A \\] in it];W[b3](;B[a1])(;B[e5]))")
+        self.soon("5,c3,b3,a1", self.link)
+        browser.click("#moves .side")
+        browser.click("#hint")
+        browser.click("#moves .side")
+        browser.click("#analyse")
+        browser.click("#save")
+        self.assertNotIn(b"hexd: ", self.saved_record())
+        browser.click("#save-remarks")
+        for _ in range(2):
+            browser.click("#save")
+            record = self.saved_record().decode()
+            self.assertEqual(5, record.count("hexd: With "))
+            self.assertIn("C[Begins\n\nhexd: With Black to move: ", record)
+            visits = r"Visits, and wins of them: [a-e][1-5] \d+ \(\d+ %\)"
+            self.assertRegex(record, rf"C\[A \\\] in it\n\nhexd: With White to move: [^]]*{visits}")
+            # Who opens it sees them, and they don't come twice when it is saved again.
+            self.opened(record.encode())
+            browser.ready()
+            self.soon_in("hexd: With ", "#record .comment")
+            browser.click("#analyse")
+            browser.click("#moves .side")
+            browser.click("#hint")
+            browser.click("#moves .side")
+        browser.click("#save-remarks")
+
+    def test_a_certificate_is_opened(self):
+        browser = self.start("3,b2", players=("I", "I"))
+        self.opened(SEMI, "c4.cert")
+        self.soon("4,+b-d1,+w-b3", self.link)
+        browser.ready()
+        self.soon_in("Solved: Black wins by ", "#words .proved")
+        self.soon_in("Black joins row 1 and row 4 if Black moves first", "#claim")
+        self.soon("hexd check accepts it, in a run of its own.", self.words("#checked"))
+        self.soon("hexd's turn (Black)", self.words("#state"))
+        self.soon(1, self.marks("#plot .mark.proved"))
+        self.assertEqual(["hexd", "I"], [browser.find(f"#player-{it}").get_attribute("value") for it in "bw"])
+        for wrong in (SEMI.replace(b"white b3", b"white b4"), SEMI[:-3]):
+            self.opened(wrong, "wrong.cert")
+            self.soon_in("hexd: the certificate is refused: no", "#said")
+            browser.ready()
+            self.soon("4,+b-d1,+w-b3", self.link)
+
+    def test_against_a_certificate(self):
+        """hexd plays the winner, and I move first."""
+        browser = self.start("4,b2", players=("I", "I"))
+        self.opened(FULL, "b2.cert")
+        self.soon("3,+b-b2", self.link)
+        browser.ready()
+        self.soon_in("Solved: Black wins, whatever White plays", "#words .proved")
+        before = (browser.text("#words"), self.carrier())
+        browser.reload()
+        self.soon(before, lambda: (browser.text("#words"), self.carrier()))
+        self.soon("Your turn (White)", self.words("#state"))
+        browser.cell("b1")
+        self.soon("w-b1", lambda: self.moves()[0])
+        self.soon_in("White has lost: Black's certificate of move ", "#words .proved")
+        browser.cell(browser.vertices("[data-vertex]:not(:has(.stone))")[0])
+        self.soon_in("hexd has won (Black)", "#state")
+
+    def test_a_certificate_wins_for_a_weak_hexd(self):
+        """By the certificate alone: this hexd sees nothing else."""
+        certificate = lzma.decompress((ROOT / "openings" / "5-c3.cert.xz").read_bytes())
+        with Server("--playouts", "1", "--hsearch", "off", "--workers", "1") as server:
+            browser = self.start("4,b2", players=("I", "I"), server=server)
+            self.opened(certificate, "c3.cert")
+            self.soon("5,+b-c3", self.link)
+            browser.ready()
+            while browser.text("#state") == "Your turn (White)":
+                self.assertIn("Black", browser.text("#words .proved"))
+                browser.cell(browser.vertices("[data-vertex]:not(:has(.stone))")[-1])
+            self.soon("hexd has won (Black).", self.words("#state"))
+            browser.driver.get("about:blank")
 
     def test_links(self):
         browser = self.start("5,+b-c3,+w-b3,+b-e5,w-a1,a2")

@@ -3,23 +3,37 @@
 import os
 import re
 import subprocess
+import sys
 import tempfile
 import unittest
 from pathlib import Path
 
+from tests.certificates import FULL, SEMI
 from tests.support import LIMIT_SECONDS, ROOT, SMALL, dying
 
 # White has a certified win before move 4, Black after it, and White again after move 5.
 GAME = "(;FF[4]GM[11]SZ[5]PB[<b>&]C[a ';B[a1\\]'];B[c2];W[c3];B[d3];W[a1];B[a2];W[c4];B[d4];W[d2];B[b3];W[b4];B[a5];W[a4])"
 SWAPPED = "(;GM[11]SZ[3];B[b2];W[swap-pieces];B[a2];W[c1];B[resign])"
 # Both play along the edges.
-WEAK = "(;GM[11]SZ[7];B[a1];W[g7];B[g1];W[a7];B[b1];W[f7];B[f1];W[b7];B[c1];W[e7])"
+WEAK = "(;GM[11]SZ[10];B[a1];W[j10];B[j1];W[a10];B[b1];W[i10];B[i1];W[b10];B[c1];W[h10];B[h1];W[c10])"
+# A move keeps the win that hexd solve shows, and another one gives it away.
+KEPT, LOST = "(;GM[11]SZ[5];B[c2];W[c3];B[a4])", "(;GM[11]SZ[5];B[c2];W[c3];B[d3])"
 # White plays by his certificate of move 4, and answers by it.
 PROVED = "(;GM[11]SZ[5];B[c2];W[c3];B[d3];W[c4];B[a1];W[a2])"
 
 
-def reported(*words, given=None):
-    command = dying(ROOT / "bin/hexd-report", *words)
+# A report for whose positions the solver has so many seconds: what it decides within one is the machine's matter.
+TIMED = """
+import sys
+sys.path.insert(0, sys.argv.pop(1))
+import report
+report.SOLVE_SECONDS = float(sys.argv.pop(1))
+sys.exit(report.main())"""
+
+
+def reported(*words, given=None, seconds=None):
+    launcher = [ROOT / "bin/hexd-report"] if seconds is None else [sys.executable, "-c", TIMED, ROOT / "board", seconds]
+    command = dying(*launcher, *words)
     how = {"input": given} if given is not None else {"stdin": subprocess.DEVNULL}
     return subprocess.run(command, capture_output=True, text=True, timeout=LIMIT_SECONDS, **how)
 
@@ -30,10 +44,10 @@ class Reports(unittest.TestCase):
         self.addCleanup(folder.cleanup)
         self.folder = Path(folder.name)
 
-    def report(self, record, name="a game.sgf"):
+    def report(self, record, name="a game.sgf", seconds=None):
         file = self.folder / name
         file.write_text(record)
-        return reported(*SMALL, file)
+        return reported(*SMALL, file, seconds=seconds)
 
     def test_a_report_stands_alone(self):
         run = self.report(GAME)
@@ -66,6 +80,19 @@ class Reports(unittest.TestCase):
         said = b"0 of 0\nhexd-report: standard output: No space left on device\n"
         self.assertEqual((1, said), (run.returncode, run.stderr))
 
+    def test_a_certificate(self):
+        run = self.report(SEMI.decode(), "c4.cert")
+        self.assertEqual((0, ""), (run.returncode, run.stderr))
+        self.assertEqual([], re.findall(r"""(?:src|href)=["'](?!#)""", run.stdout))
+        self.assertIn("<h1>c4.cert</h1>", run.stdout)
+        for wrong, why in (
+            (SEMI.replace(b"white b3", b"white b4"), "hexd check refuses it: no 4 2"),
+            (SEMI[:100], "hexd check refuses it: not a certificate at line 10"),
+            (b"hexcert 3\n", "hexd check refuses it: not a certificate at line 1"),
+        ):
+            run = self.report(wrong.decode(), "wrong.cert")
+            self.assertEqual((1, "", f"hexd-report: {self.folder / 'wrong.cert'}: {why}\n"), (run.returncode, run.stdout, run.stderr))
+
     def test_what_is_refused(self):
         missing = reported(self.folder / "none.sgf")
         self.assertEqual((1, ""), (missing.returncode, missing.stdout))
@@ -97,13 +124,15 @@ def in_browser(shots):
     class Opened(Reports):
         @classmethod
         def setUpClass(cls):
-            cls.browser = Browser()
+            cls.browser, cls.made = Browser(), {}
             cls.addClassCleanup(cls.browser.end)
 
-        def open(self, record):
-            run = self.report(record)
+        def open(self, record, name="a game.sgf", seconds=LIMIT_SECONDS):
+            """Opens a report, which is made once. On a small board the solver decides all in this time."""
+            if record not in self.made:
+                self.made[record] = self.report(record, name, seconds).stdout
             file = self.folder / "report.html"
-            file.write_text(run.stdout)
+            file.write_text(self.made[record])
             self.browser.window(WIDE)
             self.browser.open(file.as_uri())
             self.assertEqual([], self.browser.faults())
@@ -127,6 +156,8 @@ def in_browser(shots):
             self.assertTrue(browser.all("#plot .mark.proved"))
             self.assertEqual(["3 d3", "4 a1", "5 a2"], self.bad())
             self.assertEqual("a game.sgf", browser.text("h1"))
+            # In the dark the outlines have another colour.
+            self.assertIn("Outlined cells: ", browser.text(".legend"))
             self.assertIn("The start", browser.text("#said"))
             self.assertIn("This move is outside a threat: after it White wins.", self.to(2))
             self.assertIn("hexd check accepts it, in a run of its own.", self.to(3))
@@ -144,21 +175,62 @@ def in_browser(shots):
             self.assertIn("Black has won.", self.browser.text("#said"))
             self.assertEqual(2, len(self.browser.find("#stage .chain").get_attribute("points").split()))
 
+        def test_a_drawn_certificate(self):
+            browser = self.browser
+            self.open(FULL.decode(), "b2.cert")
+            self.assertEqual("Black wins.", browser.text("#winner"))
+            self.assertIn("Outlined cells: ", browser.text(".legend"))
+            self.open(SEMI.decode(), "c4.cert")
+            self.assertEqual("Black wins by c3.", browser.text("#winner"))
+            self.assertIn("Black joins row 1 and row 4 if Black moves first", browser.text("#claim"))
+            self.assertEqual("hexd check accepts it, in a run of its own.", browser.text("#checked"))
+            self.assertEqual([["d1"], ["b3"]], [browser.vertices(f"[data-vertex]:has(.stone.{colour})") for colour in "bw"])
+            carrier = {"c2", "d2", "c3", "b4", "c4"}
+            self.assertEqual(carrier, set(browser.vertices("[data-vertex]:has(.carrier)")))
+            self.assertEqual(15, len(browser.all("#lines li")))
+            self.shot("certificate-page")
+            browser.click("#lines li:nth-child(9) button")
+            self.assertEqual(["c2"], browser.vertices("[data-vertex]:has(.middle)"))
+            for size, dark in ((NARROW, False), (WIDE, True)):
+                browser.window(size, dark)
+                self.assertTrue(browser.run("return document.documentElement.scrollWidth <= innerWidth"))
+                self.shot(f"certificate-page-{size[0]}{'-dark' if dark else ''}")
+            browser.window(WIDE)
+
         def test_losses(self):
             self.open(GAME)
             browser = self.browser
             losses = [item.text for item in browser.all("#losses li")]
             self.assertTrue(2 <= len(losses) <= 5)
             # The moves that gave a proved win away lost all of it.
-            self.assertRegex(losses[0], r"^4 a1 loses 100: from wins to lost; hexd's move [a-e][1-5]$")
-            self.assertRegex(losses[1], r"^5 a2 loses 100: from wins to lost; hexd's move [a-e][1-5]$")
+            for loss, move in zip(losses, ("3 d3", "4 a1", "5 a2")):
+                self.assertRegex(loss, rf"^{move} loses 100: from wins to lost; hexd's move [a-e][1-5]$")
             cells = [cell.text for cell in browser.all("#moves tbody tr:nth-child(4) td")]
             self.assertRegex(" ".join(cells), "^4 a1 [a-e][1-5] wins lost 100$")
-            browser.click("#losses li:nth-child(2) button")
+            browser.click("#losses li:nth-child(3) button")
             self.assertIn("After move 4: White a1", browser.text("#said"))
 
+        def test_what_is_a_loss(self):
+            """A step between a guess and a proof is none; what the solver decides within a second counts as decided."""
+            self.open(KEPT)
+            self.assertEqual([], [item.text for item in self.browser.all("#losses li") if item.text.startswith("3 ")])
+            self.assertIn("Solved: Black wins.", self.to(2))
+            self.open(LOST)
+            self.assertRegex(self.browser.text("#losses li:first-child"), "^3 d3 loses 100: from wins to lost")
+            self.assertEqual(["3 d3"], self.bad())
+            for before, after, loss in (
+                ({"value": 0.9}, {"value": 0, "proved": True}, None),
+                ({"value": 1, "proved": True}, {"value": 0.4}, None),
+                ({"value": 0.75}, {"value": 0.5}, 0.25),
+                ({"value": 1, "proved": True}, {"value": 1, "proved": True}, 0),
+                ({"value": 1, "proved": True}, {"value": 0, "proved": True}, 1),
+            ):
+                told = self.browser.run("shareAt = at => arguments[at]; return lossAt(0).loss", before, after)
+                self.assertEqual(loss, told, (before, after))
+
         def test_five_losses(self):
-            self.open(WEAK)
+            # The losses are between searches, as no position is solved.
+            self.open(WEAK, seconds=0)
             browser = self.browser
             points = [int(cell.text) for cell in browser.all("#moves tbody td:last-child") if cell.text not in ("", "0")]
             self.assertGreater(len(points), 5)
@@ -174,7 +246,7 @@ def in_browser(shots):
             browser.print_form(True)
             self.assertTrue(browser.find("#position-12").is_displayed())
             self.assertFalse(browser.find("#stage").is_displayed())
-            self.assertEqual(2, browser.text("#positions").count("This move gives the win away."))
+            self.assertEqual(3, browser.text("#positions").count("This move gives the win away."))
             self.shot("report-print")
             browser.print_form(False)
 
@@ -212,5 +284,6 @@ def in_browser(shots):
             self.assertIn("This move gives the win away.", self.to(3))
 
         test_a_report_stands_alone = test_what_is_refused = test_standard_input = test_what_it_searches_with = None
+        test_a_certificate = None
 
     return Opened

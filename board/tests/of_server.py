@@ -1,11 +1,17 @@
 """The server over its socket: what it refuses, sessions and their processes, and how it ends."""
 
+import contextlib
+import errno
 import http.client
+import io
 import json
 import lzma
 import os
+import re
 import resource
+import shutil
 import signal
+import socket
 import tempfile
 import threading
 import time
@@ -14,12 +20,16 @@ from pathlib import Path
 
 from tests.support import LIMIT_SECONDS, ROOT, Server, is_running, until
 
+import handler
 import hexd
 import sessions
+import settings
+import troubles
 from openings import Openings
 
 RECORD = "(;FF[4]GM[11]SZ[3];B[a2];W[swap-pieces];B[c3])"
 MOST = 1_048_576
+GIVEN = settings.Given({"playouts": 1, "weight": 0}, 1)
 
 
 class Requests(unittest.TestCase):
@@ -60,6 +70,33 @@ class Requests(unittest.TestCase):
         for origin in ("null", "http://example.org", "http://127.0.0.1:1", own.replace("http", "https")):
             self.refused(403, self.server.request("POST", "session", b"", headers={"Origin": origin}))
 
+    def raw(self, *parts):
+        """The statuses of all answers to some bytes, until the server closes."""
+        with socket.create_connection(("127.0.0.1", self.server.port), LIMIT_SECONDS) as connection:
+            connection.sendall(b"".join(parts))
+            got = b""
+            while more := connection.recv(65_536):
+                got += more
+        return [int(status) for status in re.findall(rb"^HTTP/1.1 (\d+)", got, re.M)]
+
+    def test_a_refused_body_is_no_request(self):
+        own, token = f"127.0.0.1:{self.server.port}", self.server.token
+        inner = f"GET /{token}/settings HTTP/1.1\r\nHost: {own}\r\nConnection: close\r\n\r\n".encode()
+        post = "POST /{}/session HTTP/1.1\r\nHost: {}\r\n{}Content-Length: {}\r\n\r\n"
+        foreign, long = "Origin: http://example.org\r\n", f"Content-Length: {len(inner)}\r\n"
+        for head, status in (
+            (post.format(token, own, foreign, len(inner)), 403),
+            (post.format(token, "example.org", "", len(inner)), 403),
+            (post.format("x", own, "", len(inner)), 403),
+            # Another request behind one that is refused, behind a length that is none, and behind one of two.
+            (post.format(token, own, foreign, 0), 403),
+            (post.format(token, own, "", "+1"), 411),
+            (post.format(token, own, long, 0), 411),
+        ):
+            with self.subTest(head=head):
+                self.assertEqual([status], self.raw(head.encode(), inner))
+        self.assertEqual([400, 200], self.raw(post.format(token, own, "", 1).encode(), b"x", inner))
+
     def test_what_is_too_long(self):
         name = self.session()
         self.refused(413, self.server.post(f"session/{name}/htp", b"x" * (MOST + 1)))
@@ -92,6 +129,7 @@ class Requests(unittest.TestCase):
         paths = ("none.js", "../serve.py", "..%2fserve.py", "session", "page/board.js", "openings/12-a1", "openings/../x")
         for path in paths:
             self.refused(404, self.server.request("GET", path))
+        self.assertEqual((501, "Unsupported method ('PUT')"), self.server.request("PUT", f"session/{name}", b"name"))
         self.assertEqual(200, self.server.request("DELETE", f"session/{name}")[0])
         self.refused(404, self.server.post(f"session/{name}/htp", b"name"))
 
@@ -153,47 +191,17 @@ class Requests(unittest.TestCase):
 
     def test_settings(self):
         status, text = self.server.request("GET", "settings")
-        self.assertEqual((200, {"playouts": 200, "weight": 0, "workers": 1}), (status, json.loads(text)))
-        for playouts in (b"0", b"x", b"1000001", b"-1", b"1e3"):
-            self.refused(400, self.server.post("session", playouts))
-        status, name = self.server.post("session", b"7")
+        want = {"table": settings.TABLE, "started": {"playouts": 200, "weight": 0}, "workers": 1}
+        self.assertEqual((200, want), (status, json.loads(text)))
+        wrong = ["playouts=0", "x", "playouts=1000001", "look=-1", "solve=1e3", "weight", "workers=2", "look=1 look=1", "--look=1"]
+        for options in wrong:
+            self.refused(400, self.server.post("session", options.encode()))
+        status, name = self.server.post("session", b"playouts=7 weight=20")
         self.names = [name]
         self.server.ask(name, "boardsize 4")
         self.server.ask(name, "genmove b")
         said = self.server.ask(name, "search-report")
         self.assertIn(said.splitlines()[0], ("= playouts 7", "? no search"))
-
-    def test_records_of_other_programs(self):
-        status, text = self.server.post("convert", b"\xef\xbb\xbf x (;SZ[3]C[\xe9];B[A2];W[swap];B[cc];W[resign])")
-        record, notes = "(;FF[4]GM[11]SZ[3]C[\u00e9];B[a2];W[swap-pieces];B[c3];W[resign])", ["White resigns at move 4."]
-        self.assertEqual((200, {"record": record, "notes": notes}), (status, json.loads(text)))
-        for given, record, note in (
-            # Colours, players and result are exchanged, and rows with columns.
-            (b"(;SZ[9]PB[a]RE[W+R];W[fc];B[swap];W[ab])", "SZ[9]PW[a]RE[B+R];B[c6];W[swap-pieces];B[b1])", "White begins"),
-            (b"(;SZ[5:5];B[a3];W[swap-sides];W[b2])", "SZ[5];B[a3];;W[b2])", "Move 2 swaps sides"),
-            (b"(;SZ[3];B[tt];W[PASS];B[C1])", "SZ[3];;;B[c1])", "Move 1 is a pass of Black's"),
-            (b"(;SZ[3]AB[A1][bb];W[c2])(;SZ[9])", "SZ[3]AB[a1][b2];W[c2])", "The file has 2 games"),
-            (b"(;GaMe[11]SiZe[3];B[a1]C[\\]]LB[a1:x])", "SZ[3];B[a1]C[\\]]LB[a1:x])", None),
-            (b"(;SZ[3];B[a1]) :-( [", "SZ[3];B[a1])", "The file has 2 games"),
-            (b"(;SZ[3];B[a1];W[b2", "SZ[3];B[a1];)", "The file breaks off"),
-            (b"(;SZ[3]" + b"[" * 1_000_000, "SZ[3])", "The file breaks off"),
-            (b"(;SZ[3](;B[a1])(;B[b2])", "SZ[3](;B[a1])(;B[b2]))", "The file breaks off"),
-        ):
-            status, text = self.server.post("convert", given)
-            got = json.loads(text)
-            self.assertEqual((200, f"(;FF[4]GM[11]{record}"), (status, got["record"]))
-            self.assertTrue(got["notes"][0].startswith(note) if note else not got["notes"], got["notes"])
-        for wrong, why in (
-            (b"", "it is no record of a game"),
-            (b"for (;;) { x[0] = 1 }", "it is no record of a game"),
-            (b"\x89PNG\0(;B[a1])", "it is no record of a game"),
-            (b"(;SZ[14])", "size 14: hexd plays 1 to 11"),
-            (b"(;GM[1])", "it is a record of another game than Hex: GM[1]"),
-            (b"(;B[a1]W[a2])", "node 1 has two moves"),
-            (b"(;;B[a1];AB[a2])", "stones are set or taken away at move 2, and hexd takes those of the start alone"),
-            (b"(;AB[x];B[a1])", "a stone of the start lies on no cell: 'x'"),
-        ):
-            self.assertEqual((400, why), self.server.post("convert", wrong))
 
     def test_the_solver(self):
         name = self.session()
@@ -256,6 +264,26 @@ class Requests(unittest.TestCase):
         got = self.server.post(f"session/{name}/htp", b"genmove b")
         self.assertEqual((410, "hexd ended with status 5 (hexd: out of memory)"), got)
 
+    def test_a_full_disk(self):
+        name = self.session()
+        self.server.ask(name, "boardsize 3")
+        # No file of the server's may have a byte.
+        resource.prlimit(self.server.process.pid, resource.RLIMIT_FSIZE, (0, resource.RLIM_INFINITY))
+        status, said = self.server.post(f"session/{name}/record", RECORD.encode())
+        resource.prlimit(self.server.process.pid, resource.RLIMIT_FSIZE, (resource.RLIM_INFINITY, resource.RLIM_INFINITY))
+        self.assertEqual(500, status)
+        self.assertRegex(said, "^hexd can't be given the game by a file of .*: File too large. Nothing is lost: .* files be larger")
+        self.assertEqual((200, "= "), self.server.post(f"session/{name}/record", RECORD.encode()))
+
+    def test_a_folder_that_is_taken_away(self):
+        name = self.session()
+        (pid,) = self.server.engines()
+        folder = Path(os.readlink(f"/proc/{pid}/cwd")).parent
+        shutil.rmtree(folder)
+        got = self.server.post(f"session/{name}/record", RECORD.encode())
+        self.assertEqual((410, "its folder was taken away"), got)
+        self.assertEqual((200, "= "), self.server.post(f"session/{self.session()}/record", RECORD.encode()))
+
     def test_many_requests_leave_nothing(self):
         name = self.session()
         self.server.ask(name, "name")
@@ -271,6 +299,54 @@ class Requests(unittest.TestCase):
         held = self.server.held()
         time.sleep(0.3)
         return held if held == self.server.held() else None
+
+
+class Troubles(unittest.TestCase):
+    """What the system refuses the server."""
+
+    def refused(self, table, what):
+        with self.assertRaises(sessions.Refusal) as refused:
+            what(table)
+        self.assertEqual(500, refused.exception.status)
+        return refused.exception.why
+
+    def test_each_has_its_words(self):
+        with tempfile.TemporaryDirectory() as folder:
+            place, program = Path(folder) / "a file", Path(folder) / "program"
+            place.touch()
+            table = sessions.Sessions(hexd.PROGRAM, GIVEN, [], place)
+            self.assertRegex(self.refused(table, lambda table: table.make()), "folder .* can't be written: Not a directory. Nothing")
+            table = sessions.Sessions(program, GIVEN, [], folder)
+            gone = rf"the program {program} can't be started: No such file or directory. Nothing is lost: .* Put it back"
+            self.assertRegex(self.refused(table, lambda table: table.make()), gone)
+            # Nothing is left of a session that did not begin.
+            self.assertEqual(["a file"], os.listdir(folder))
+            table = sessions.Sessions(hexd.PROGRAM, GIVEN, [], folder)
+            name = table.make()
+            table.program = program
+            self.assertRegex(self.refused(table, lambda table: table.check(name, b"")), gone)
+            self.assertRegex(self.refused(table, lambda table: table.solve(name, b"", "1")), gone)
+            table.close()
+
+    def test_a_full_disk_says_what_to_do(self):
+        for number, advice in ((errno.ENOSPC, "Make room"), (errno.EMFILE, "Close pages"), (errno.EIO, "Start bin/hexd-board")):
+            self.assertIn(f"{os.strerror(number)}. {troubles.KEPT} {advice}", troubles.told("it", OSError(number, "")))
+
+    def test_a_fault_of_the_server(self):
+        """It is answered, and told on the terminal."""
+        server = handler.Server("127.0.0.1", 0, None, None)
+        threading.Thread(target=server.serve_forever, daemon=True).start()
+        connection = http.client.HTTPConnection("127.0.0.1", server.server_port, timeout=LIMIT_SECONDS)
+        with contextlib.redirect_stderr(io.StringIO()) as told:
+            connection.request("POST", f"/{server.token}/room")
+            answer = connection.getresponse()
+            got = answer.status, answer.read().decode()
+            until(lambda: "AttributeError" in told.getvalue(), "the terminal has more")
+        connection.close()
+        server.shutdown()
+        server.server_close()
+        self.assertEqual(500, got[0])
+        self.assertTrue(got[1].startswith("the server has a fault, AttributeError, "), got[1])
 
 
 class Shelves(unittest.TestCase):

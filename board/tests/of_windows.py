@@ -5,20 +5,28 @@ from tests.pages import Pages
 
 WINDOWS = (("wide", WIDE), ("laptop", LAPTOP), ("old", OLD), ("tablet", TABLET), ("phone", NARROW), ("phone-lying", LYING),
            ("small-phone", SMALL), ("small-phone-lying", SMALL_LYING))
+# The boxes and buttons of the column beside the board that pass the part they stand in.
+PAST = """
+    const ends = element => element.getBoundingClientRect().right;
+    return [...document.querySelectorAll('aside :is(button, select, input)')].filter(it => it.checkVisibility())
+      .filter(it => ends(it) > ends(it.closest('section')) + 1).map(it => it.id);"""
 
 
 class Windows(Pages):
     def test_board_and_bar_are_in_view(self):
+        self.start("11,f6,e7,g5,d8,c9,w-b10,h3,a1,k11")
+        self.browser.click("#hint")
         for name, size in WINDOWS:
             for dark in (False, True):
                 with self.subTest(window=name, dark=dark):
                     self.browser.window(size, dark)
-                    self.start("11,f6,e7,g5,d8,c9,w-b10,h3,a1,k11")
-                    self.browser.click("#hint")
+                    # What hexd said comes back with the game.
+                    self.browser.reload()
                     self.browser.run("scrollTo(0, 0)")
                     self.assertTrue(self.fits())
                     across = "const side = document.querySelector('aside'); return side.scrollWidth - side.clientWidth"
                     self.assertEqual(0, self.browser.run(across))
+                    self.assertEqual([], self.browser.run(PAST))
                     if name in ("wide", "laptop"):
                         self.assertEqual(size[0], self.browser.run("return document.documentElement.clientWidth"))
                     for css in ("#status", "#board", "#back", "#undo", "#hint", "#go", "#swap", "#new"):

@@ -2,6 +2,7 @@
 
 import time
 import unittest
+from datetime import date
 from pathlib import Path
 
 from tests.browser import WIDE, Browser
@@ -75,6 +76,10 @@ class Pages(unittest.TestCase):
         file = self.browser.folder / name
         file.write_bytes(record)
         self.browser.find("#open").send_keys(str(file))
+
+    def saved_record(self):
+        """The record that the page has saved, under a name with the day."""
+        return self.browser.saved(f"hexd-{date.today()}.sgf")
 
     def shot(self, name):
         if self.shots is not None:

@@ -1,5 +1,6 @@
 """The pictures of the documents: screenshots of the page at work, small enough to be kept."""
 
+import settings
 from tests.browser import Browser
 from tests.palette import small
 from tests.support import Server
@@ -11,12 +12,15 @@ CERTIFIED = "7,c3,d4,e3,d5,f4,d3,d2"
 
 
 def search(browser, address):
-    """A game in which hexd has moved and is asked once more."""
+    """A game in which hexd has moved and is asked once more, as strongly as it plays if nothing is said."""
     browser.open(f"{address}#{SEARCHED}")
     browser.choose("#player-w", "I")
+    browser.choose("#strength", settings.TABLE["default"])
     for _ in range(4):
         browser.click("#go")
     browser.click("#hint")
+    # How long it took is this machine's matter.
+    browser.run("play.game.took = null; play.draw()")
 
 
 def certificate(browser, address):
@@ -42,6 +46,8 @@ def make(folder):
             browser.window(WINDOW)
             for name, show in (("search", search), ("certificate", certificate)):
                 show(browser, server.address)
+                # Nothing is pointed at.
+                browser.point("#state")
                 picture = small(browser.driver.get_screenshot_as_png())
                 if len(picture) > MOST_BYTES:
                     raise AssertionError(f"{name} has {len(picture)} bytes, and may have {MOST_BYTES}")

@@ -17,6 +17,9 @@
 --    those of the records), Closing (the five points of a closed tree).
 -- 7. All together: Law (`state-step`, and what `steps`, `begins` and `closes` cite), RunLaws
 --    (`runs`, `splits`, `joins`).
+-- 8. Seats that owe: specs/Owing.antt. Reloaded (any seen word may stand in what a seat loaded),
+--    Debts (sums of what is owed), Owing (a step, an add that is owed, what is given), OwingSeats
+--    (splits, joins, the beginning and the end).
 
 -- Laws for the layers above.
 pub mod Options
@@ -49,6 +52,10 @@ pub mod LeafBound
 pub mod ViewStays
 pub mod ViewSeats
 pub mod Law
+pub mod Reloaded
+pub mod Debts
+pub mod Owing
+pub mod OwingSeats
 -- Steps of this crate's own proofs.
 mod Below
 mod ByNumber

@@ -11,3 +11,4 @@ pub mod Rule
 pub mod Runs
 pub mod Closed
 pub mod Shown
+pub mod Owing

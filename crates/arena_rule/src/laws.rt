@@ -12,6 +12,10 @@ ghost use Rattle.arena_rule.specs.Runs.{StepsKeep, StepsMayAnswer, SplitsKeep, J
 ghost use Rattle.arena_rule.specs.Closed.{EndsClosed, EndsWithAllWalks, CountsRecords};
 ghost use Rattle.arena_rule.specs.Shown.{KnowsShown, KeepsKnown, HoldsUnnamed, WinsAmongVisits};
 ghost use Rattle.arena_rule.specs.Shown.{StepsKeepOrder, SplitsKeepOrder, JoinsKeepOrder};
+ghost use Rattle.arena_rule.specs.Owing.{OwingArena, OwingHolds, OwingStepsKeep};
+ghost use Rattle.arena_rule.specs.Owing.{OwingStepsMayAnswer, OwesKeep, GivesKeep};
+ghost use Rattle.arena_rule.specs.Owing.{OwingSplitsKeep, OwingJoinsKeep, OwesAtSeenWords};
+ghost use Rattle.arena_rule.specs.Owing.{OwingEndsClosed};
 
 /// The law of a step: if a seat's view fits a step, the rule holds after it, and the answer is one
 /// that the step may give. It does nothing.
@@ -88,4 +92,29 @@ pub fn known_blocks_stay()
 /// nothing.
 pub fn held_blocks_are_unnamed()
     ensures { (s : Setting) (a : Arena) (rule : RuleHolds s a) → HoldsUnnamed s a rule }
+{}
+
+/// The law of a step with debts: if a seat's view fits a step, the rule holds of the settled words
+/// after it, and the answer, which is what the words have, is one that the step may give. It does
+/// nothing.
+pub fn steps_with_debts()
+    ensures rule { (s : Setting) (a : OwingArena) → OwingHolds s a → OwingStepsKeep s a }
+    ensures answer { (s : Setting) (a : OwingArena) → OwingHolds s a → OwingStepsMayAnswer a }
+{}
+
+/// The law of debts: the rule holds after an add that is owed, and after what is owed to a word is
+/// given; and only seen words of nodes of the tree are owed to. It does nothing.
+pub fn debts_are_kept()
+    ensures owes { (s : Setting) (a : OwingArena) → OwingHolds s a → OwesKeep s a }
+    ensures gives { (s : Setting) (a : OwingArena) → OwingHolds s a → GivesKeep s a }
+    ensures words { (s : Setting) (a : OwingArena) (rule : OwingHolds s a)
+        → OwesAtSeenWords s a rule }
+{}
+
+/// The law of seats that owe nothing: the rule holds after a split and a join of them, and if one
+/// is left that stands for all workers, and they have ended, the tree is closed. It does nothing.
+pub fn seats_without_debts()
+    ensures split { (s : Setting) (a : OwingArena) → OwingHolds s a → OwingSplitsKeep s a }
+    ensures join { (s : Setting) (a : OwingArena) → OwingHolds s a → OwingJoinsKeep s a }
+    ensures closed { (s : Setting) (a : OwingArena) → OwingHolds s a → OwingEndsClosed s a }
 {}

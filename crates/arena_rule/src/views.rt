@@ -2,16 +2,16 @@
 
 use std::marker::Model;
 
-/// A seat's view: what is known of a seat by its own steps. No value of it is made; contracts see
-/// it as a `SeatView`.
-pub struct View {
+/// A seat's view, and the adds that it owes. No value of it is made; contracts see it as a
+/// `Debtor`.
+pub struct Account {
     nothing: u8,
 }
 
-impl Model for View {
-    ghost use Rattle.arena_rule.specs.Views.{SeatView, unseen_view};
+impl Model for Account {
+    ghost use Rattle.arena_rule.specs.Owing.{Debtor, unseen_debtor};
 
-    ghost Value = { SeatView };
+    ghost Value = { Debtor };
 
-    ghost view = { λ _. unseen_view };
+    ghost view = { λ _. unseen_debtor };
 }

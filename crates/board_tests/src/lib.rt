@@ -8,6 +8,8 @@
 #[cfg(test)]
 mod of_cert_check;
 #[cfg(test)]
+mod of_circuit;
+#[cfg(test)]
 mod of_conn_store;
 #[cfg(test)]
 mod of_hex_board;
@@ -25,6 +27,8 @@ mod of_hex_solve;
 mod of_hsearch;
 #[cfg(test)]
 mod of_htp_line;
+#[cfg(test)]
+mod of_look_ahead;
 #[cfg(test)]
 mod of_sgf_game;
 #[cfg(test)]

@@ -1,5 +1,5 @@
-//! Certificates that are found: whose they are, texts that are none, and how many positions at most
-//! are entered.
+//! Certificates that are found: whose they are, those that don't count, and how many positions at
+//! most are entered.
 
 use super::of_hsearch::board_of;
 use cert_check::check;
@@ -11,7 +11,7 @@ use std::alloc::Global;
 use std::process::Abort;
 use std::rt::HostRuntime;
 use std::test::Fail;
-use win_cert::{MOST_LINES, Verdict};
+use win_cert::{MOST_LINES, Verdict, read};
 
 // That Black wins the empty board of size 2, in the latest version.
 const BLACK_WINS: &[u8] = b"hexcert 2\nsize 2\nplayer black\nblack\nwhite\n\
@@ -59,12 +59,15 @@ fn small_boards_are_decided(rt: HostRuntime) {
     use Kind::{Full, Semi};
     // Size, stones, the mover, and who wins by what claim.
     let rows = [
-        (1, 0, White, Some((White, Semi))),
+        (2, 0, White, Some((White, Semi))),
         (3, 0, Black, Some((Black, Semi))),
         // After a1 White wins, and after c1 Black.
         (3, 1, White, Some((White, Semi))),
         (3, 9, White, Some((Black, Full))),
         (4, AFTER_D1, White, Some((Black, Full))),
+        // A stone that joins the edges.
+        (1, 0, White, Some((White, Semi))),
+        (2, 1, Black, Some((Black, Semi))),
         // Black is joined already.
         (1, 1, White, None),
     ];
@@ -77,9 +80,9 @@ fn small_boards_are_decided(rt: HostRuntime) {
 }
 
 #[test]
-fn texts_are_compared(rt: HostRuntime) {
+fn certificates_are_compared(rt: HostRuntime) {
     use Colour::{Black, White};
-    // The text, the size, the stones and the mover, and whether it is answered.
+    // The certificate, the size, the stones and the mover, and whether it is answered.
     let rows = [
         (BLACK_WINS, 2, 0, Black, true),
         (BLACK_WINS, 2, 0, White, false),
@@ -87,10 +90,12 @@ fn texts_are_compared(rt: HostRuntime) {
         (BLACK_WINS, 3, 0, Black, false),
         (FIRST_VERSION, 2, 0, Black, false),
         (REFUSED, 2, 0, Black, false),
-        (b"", 2, 0, Black, false),
     ];
     for (text, size, stones, mover, expected) in rows {
-        let Ok(answer) = certified(rt.alloc(), &board(&rt, size, stones), mover, text) else {
+        let Ok(cert) = read(rt.alloc(), text) else {
+            panic!(rt; "it is a certificate");
+        };
+        let Ok(answer) = certified(rt.alloc(), &board(&rt, size, stones), mover, cert) else {
             panic!(rt; "there is memory");
         };
         assert_eq!(rt; answer.is_some(), expected);
@@ -119,7 +124,7 @@ fn budget_is_spent(rt: HostRuntime) -> Result<(), Fail> {
     assert_eq!(rt; whole.entered, ENTERED);
     // As many positions are enough, and one fewer is not.
     let same = sought(&rt, rt.alloc(), whole.entered);
-    assert_eq!(rt; same.text.as_slice(), whole.text.as_slice());
+    assert!(rt; 0 < same.lines && same.cert.is_some());
     assert_eq!(rt; (same.entered, same.lines), (whole.entered, whole.lines));
     for budget in [whole.entered - 1, 1, 0] {
         let short = sought(&rt, rt.alloc(), budget);
@@ -127,7 +132,7 @@ fn budget_is_spent(rt: HostRuntime) -> Result<(), Fail> {
             (short.by_mover, short.entered, short.lines),
             (None, budget, 0)
         );
-        assert!(rt; short.text.is_empty());
+        assert!(rt; short.cert.is_none());
     }
     Ok(())
 }

@@ -204,8 +204,10 @@ fn one_cell_joins_the_edges(rt: HostRuntime) {
     let board = board_of(size_of(&rt, 1), 0);
     let report = report_of(&rt, rt.alloc(), &board, Colour::Black);
     let store = report.store();
-    assert!(rt; 2 < store.elements().count());
-    let held = store.held(0, 1, Kind::Semi);
+    let elements = store.elements();
+    let (first, second) = (elements.edge(false), elements.edge(true));
+    assert!(rt; first < second);
+    let held = store.held(first, second, Kind::Semi);
     assert_eq!(rt; held.count, 1);
     let entries = store.entries();
     assert!(rt; (held.at[0] as usize) < entries.len());
@@ -213,7 +215,7 @@ fn one_cell_joins_the_edges(rt: HostRuntime) {
         entries[held.at[0] as usize].carrier,
         CellSet::none().with(Cell::numbered(0))
     );
-    assert_eq!(rt; store.held(0, 1, Kind::Full).count, 0);
+    assert_eq!(rt; store.held(first, second, Kind::Full).count, 0);
 }
 
 #[test]

@@ -10,6 +10,7 @@ use Rattle.std.proofs.Math.Seq.{take-append_seam}
 use Rattle.std.proofs.lemmas.Option.{same_Some, slice_get_within}
 use Rattle.std.proofs.lemmas.List.{append-nil, get_or-set_same, get_or-set_other, get_or-replicate}
 use Rattle.std.proofs.lemmas.List.{length-replicate, length-set, take-append-le, get_or_append_left}
+use Rattle.std.proofs.lemmas.List.{replicate-append-replicate, take_all}
 use Rattle.std.proofs.lemmas.List.Elements.{All-replicate, All-set}
 use Rattle.std.proofs.lemmas.List.Sums.{sum_by-set, sum_by-le}
 use Rattle.std.proofs.lemmas.List.Folds.{sum_by-replicate}
@@ -46,6 +47,15 @@ empty_table e kind = record {
   where
     zero_most : (kind : Kind) → 0 ≤ most_of kind
     zero_most kind = omega arith
+
+-- a table that was cut, filled and made longer
+pub refilled : (n m : ℕ) (h : Held) (xs ys : List Held) → xs ≡ replicate m h → m ≤ n
+    → ys ≡ take n xs ++ replicate (n - m) h → ys ≡ replicate n h
+refilled n m h xs ys e l g =
+    let k : length xs ≡ m = ap length e ∙ length-replicate m h in
+    let t : take n xs ≡ replicate m h = take_all n xs (omega arith) ∙ e in
+    let s : m + (n - m) ≡ n = omega arith in
+    g ∙ (ap (λ v. v ++ replicate (n - m) h) t ∙ (replicate-append-replicate m (n - m) h ∙ ap (λ v. replicate v h) s))
 
 -- ---- one entry more
 
@@ -307,7 +317,7 @@ pub new_stored : (board : Position) (player : Colour) (e : PlayerBoard) (entries
     → Within board.size (stones_of board player) → element_count e ≤ 123
     → n ≡ pairs_among (element_count e)
     → entries ≡ [] → full ≡ replicate n (held_of []) → semi ≡ replicate n (held_of [])
-    → room ≡ 10 * n
+    → 10 * n ≤ room
     → IsStored board player (record { elements = e; entries = entries }) full semi room
 new_stored board player e entries full semi room n q z w f m i j k r = record {
   same_board = ap (λ (v : PlayerBoard). v.board) q;
@@ -324,7 +334,7 @@ new_stored board player e entries full semi room n q z w f m i j k r = record {
   full_table = table Full full j;
   semi_table = table Semi semi k;
   total = rw (i, j, k) (omega (arith, none));
-  space = rw r (omega arith);
+  space = omega (arith, m, r);
 }
   where
     table : (kind : Kind) (t : List Held) → t ≡ replicate n (held_of [])
@@ -378,6 +388,12 @@ both_written d a h full semi next_full next_semi l m t u e f (inr (q, r, s)) =
 
 pub held_count : (h : Held) (numbers : List ℕ) → h ≡ held_of numbers → h.count ≡ length numbers
 held_count h numbers e = ap (λ (v : Held). v.count) e
+
+-- there is a place for one number more
+pub held_room : (kind : Kind) (h : Held) (numbers : List ℕ) → h ≡ held_of numbers
+    → length numbers < most_of kind → h.count < 6
+held_room kind h numbers e l
+    = six kind h.count (subst (λ n. n < most_of kind) (sym (held_count h numbers e)) l)
 
 -- a store with one entry more
 pub stored_more : (board : Position) (player : Colour) (d : StoreData) (full semi : List Held)

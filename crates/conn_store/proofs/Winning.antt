@@ -1,12 +1,11 @@
 -- Who is sure of joining his edges wins.
-use Rattle.std.proofs.Common.{◌≡◌, ℕ, ◌==◌, ◌&&◌, not, true, false, Bool, refl, sym, ◌∙◌, ap, subst}
+use Rattle.std.proofs.Common.{◌≡◌, ℕ, ◌==◌, ◌&&◌, not, true, false, Bool, sym, ◌∙◌, ap, subst}
 use Rattle.std.proofs.Common.{inl, inr, zero, suc, arith}
 use Rattle.std.proofs.lemmas.Bool.{cases_Bool, both_ways}
 use Rattle.std.proofs.lemmas.Bool.Decides.{nat_tests}
 use Rattle.hex_cells.specs.Sets.{has, with_cell, without_cell}
 use Rattle.hex_cells.specs.Colours.{other_of}
 use Rattle.hex_cells.specs.declared.colours.Colour.{Colour}
-use Rattle.hex_cells.specs.declared.colours.Colour.TheVariants.{Black, White}
 use Rattle.hex_board.specs.Joined.{Joined}
 use Rattle.hex_board.specs.Positions.{AllEmpty, Position, stones_of, is_empty_at, placed}
 use Rattle.hex_board.specs.Wins.{Wins}

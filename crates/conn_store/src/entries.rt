@@ -74,11 +74,11 @@ pub struct Held {
 /// A connection of two elements.
 #[derive(Clone, Copy, Debug, PartialEq, Eq)]
 pub struct Entry {
+    /// The empty cells inside which the player joins the elements.
+    pub carrier: CellSet,
+    pub cause: Cause,
     pub kind: Kind,
     /// The lesser element.
     pub x: u8,
     pub y: u8,
-    /// The empty cells inside which the player joins the elements.
-    pub carrier: CellSet,
-    pub cause: Cause,
 }

@@ -1,13 +1,15 @@
 //! The index of a store: which entries a pair has of a kind.
 
 ghost use Rattle.std.specs.Prelude.{◌≡◌, ℕ, ◌+◌, ◌<◌, ◌≤◌, ◌↔◌, IsTrue, length, slice_index};
-ghost use Rattle.std.specs.Prelude.{slice_set};
+ghost use Rattle.std.specs.Prelude.{[], OnOk, replicate, slice_set};
+ghost use Rattle.conn_store.specs.Stores.{held_of};
 ghost use Rattle.conn_store.specs.declared.entries.TheConstants.{MOST_SEMI};
 ghost use Rattle.conn_store.specs.Index.{AnyInside, number_of_pair, pairs_among};
 
-use super::entries::{Entry, Held};
+use super::entries::{Entry, Held, MOST_SEMI};
 use hex_board::MOST_ELEMENTS;
 use hex_cells::CellSet;
+use std::alloc::AllocError;
 
 /// How many pairs so many elements make.
 pub(crate) fn pair_count(elements: u32) -> usize
@@ -31,17 +33,31 @@ pub(crate) fn pair_number(x: u8, y: u8) -> usize
     y * (y - 1) / 2 + usize::from(x)
 }
 
-/// The numbers with one more at the end.
-pub(crate) fn with_number(held: Held, number: u32) -> Held
-    requires { held.count < MOST_SEMI }
-    ensures { result ≡ record { count = held.count + 1; at = slice_set held.at held.count number } }
+/// Makes it the table of so many pairs, of which none has entries.
+pub(crate) fn clear_table(table: &mut Vec<Held>, pairs: usize) -> Result<(), AllocError>
+    ensures { OnOk result (table.new.items ≡ replicate pairs (held_of [])) }
 {
-    let mut at = held.at;
-    at[held.count as usize] = number;
-    Held {
-        count: held.count + 1,
-        at,
-    }
+    let none = Held {
+        count: 0,
+        at: [0; MOST_SEMI],
+    };
+    // What stays is filled at once, which is faster than to push it anew.
+    table.truncate(pairs);
+    table.fill(none);
+    table.resize(pairs, none)?;
+    Ok(())
+}
+
+/// Writes one number more at the end.
+pub(crate) fn push_number(held: &mut Held, number: u32)
+    requires { held.old.count < MOST_SEMI }
+    ensures { held.new ≡ record {
+      count = held.old.count + 1;
+      at = slice_set held.old.at held.old.count number;
+    } }
+{
+    held.at[held.count as usize] = number;
+    held.count += 1;
 }
 
 /// Whether one of the entries with these numbers has its carrier inside the set.

@@ -10,7 +10,8 @@
 //! **A caller** makes a [`Store`], adds entries that follow from those that it holds
 //! ([`Store::add`]), looks up those of a pair ([`Store::held`]), and goes over all
 //! ([`Store::entries`]). What follows by AND is asked of an entry over its middle ([`EntryOver`])
-//! and any other, so that each is a few tests on two carriers ([`Store::by_and`]).
+//! and any other, so that each is a few tests on two carriers ([`Store::by_and`]). The next store
+//! may take its memory ([`Store::again`]).
 //!
 //! **What is proved.** Each entry of a store is valid and follows by the four rules from earlier
 //! ones. So it is *true* ([`sound_entries_are_true`]): the truth of an entry (specs/Truth.antt,
@@ -20,11 +21,12 @@
 //! sure of linking the elements of his two edges wins the game ([`connected_edges_win`]); more
 //! cells, more stones and the first move keep truth ([`truth_goes_on`]).
 //!
-//! **What is only tested, or not said.** That [`Store::make`] gets its memory; speed; what the
-//! derived `Debug` prints. That a rule is never missed is for the crate above.
+//! **What is only tested, or not said.** That [`Store::make`] gets its memory, and that
+//! [`Store::again`] seldom takes more; speed; what the derived `Debug` prints. That a rule is never
+//! missed is for the crate above.
 //!
 //! **Limits.** At most [`MOST_FULL`] full and [`MOST_SEMI`] semi entries of a pair, and
-//! [`MOST_ENTRIES`] in all. Only [`Store::make`] takes memory.
+//! [`MOST_ENTRIES`] in all. Only [`Store::make`] and [`Store::again`] take memory.
 //!
 //! Source: Anshelevich's virtual and semi connections, with the AND rule, the OR rule and carriers.
 //!

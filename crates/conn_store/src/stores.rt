@@ -8,7 +8,7 @@ ghost use Rattle.conn_store.specs.Stores.{AreTrue, IsDominated, IsPairFull, IsSo
 ghost use Rattle.conn_store.specs.Stores.{empty_store, held_of, most_of, numbers_of, with_entry};
 
 use super::entries::{Entry, Held, Kind, MOST_ENTRIES, MOST_FULL, MOST_SEMI, Put};
-use super::index::{has_inside, pair_count, pair_number, with_number};
+use super::index::{clear_table, has_inside, pair_count, pair_number, push_number};
 use super::refusals::Memory;
 use hex_board::{Board, Elements};
 use hex_cells::Colour;
@@ -69,6 +69,43 @@ impl Store {
         })
     }
 
+    /// The same as [`Store::make`], in the memory of this store. It takes more only if the new
+    /// store has more pairs of elements than each before it in this memory.
+    pub fn again(self, board: &Board, colour: Colour) -> Result<Store, Memory>
+        ensures { IfOk result (λ store. store ≡ empty_store board.now colour) }
+    {
+        Store::within(self.entries, self.full, self.semi, board, colour)
+    }
+
+    // A store without entries in the memory of these, whatever they hold.
+    fn within(
+        mut entries: Vec<Entry>,
+        mut full: Vec<Held>,
+        mut semi: Vec<Held>,
+        board: &Board,
+        colour: Colour,
+    ) -> Result<Store, Memory>
+        ensures { IfOk result (λ store. store ≡ empty_store board.now colour) }
+    {
+        // As in `make`.
+        let _size = board.size();
+        let _stones = board.stones(colour);
+        let elements = board.elements(colour);
+        let pairs = pair_count(elements.count());
+        entries.clear();
+        entries.reserve((MOST_FULL + MOST_SEMI) * pairs)?;
+        clear_table(&mut full, pairs)?;
+        clear_table(&mut semi, pairs)?;
+        Ok(Store {
+            board: *board,
+            colour,
+            elements,
+            entries,
+            full,
+            semi,
+        })
+    }
+
     /// Adds an entry, unless the store has one of that pair and kind with a carrier inside the
     /// new one, or the pair has its full number of entries of that kind. The entry is valid, and
     /// follows from entries of the store by the rule that its cause names.
@@ -88,24 +125,23 @@ impl Store {
         if held.count == entry.kind.most() {
             return Put::PairFull;
         }
-        Put::Added(self.append(entry, held))
+        Put::Added(self.append(entry))
     }
 
-    // Puts the entry, of whose kind its pair has these numbers, at the end, and answers its number.
-    fn append(&mut self, entry: Entry, held: Held) -> u32
+    // Puts the entry, of whose kind its pair has less than most, at the end, and answers its number.
+    fn append(&mut self, entry: Entry) -> u32
         requires valid { IsValid self.old.elements entry }
         requires follows { FollowsFrom self.old.elements self.old.entries entry }
-        requires held { held ≡ held_of (numbers_of self.old entry.kind entry.x entry.y) }
-        requires room { held.count < most_of entry.kind }
+        requires room { length (numbers_of self.old entry.kind entry.x entry.y)
+            < most_of entry.kind }
         ensures number { result ≡ length self.old.entries }
         ensures after { self.new ≡ with_entry self.old entry }
     {
         let pair = pair_number(entry.x, entry.y);
         let number = self.entries.len() as u32;
-        let more = with_number(held, number);
         match entry.kind {
-            Kind::Full => self.full[pair] = more,
-            Kind::Semi => self.semi[pair] = more,
+            Kind::Full => push_number(&mut self.full[pair], number),
+            Kind::Semi => push_number(&mut self.semi[pair], number),
         }
         self.entries.push(entry).unwrap();
         number

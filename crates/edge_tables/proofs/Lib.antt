@@ -1,15 +1,10 @@
--- How to read the proofs of `edge_tables`.
--- 1. What was put is found again: src/tables.rt, the invariant of `Tables` (specs/Links.antt, from
---    `AreChains` on) and the clauses of `has`, `common`, `least` and `list`.
--- 2. The invariant is kept. proofs/Linking: a new entry is the first of its chain, and each place
---    that was in one stays in it. Unlinking: a place is taken out of its chain, and no other.
---    Tabled: both, in the slots of a table.
--- 3. It serves. proofs/Walks: a walk along a chain (`ChainWalk`) has met each place of it at its end
---    (`HaveMet`), and what follows for each call. Slots: the entries of slots, and what is put.
--- 4. Covers: src/covers.rt, specs/Covers.antt, proofs/Choices.
-mod Choices
-mod Slots
-mod Walks
-mod Linking
-mod Unlinking
-mod Tabled
+-- How to read the proof of what edge_tables answers of its entries.
+-- 1. What is claimed: specs/Entries.antt (which entries a key has, which lie inside a region, which
+--    has least) with src/tables.rt; specs/Covers.antt with src/covers.rt.
+-- 2. A list of entries, one after the other: Insides (a carrier inside a region), Leasts.
+-- 3. Covers: Chosen (the choices at places), Aparts (carriers without a common cell, as places are
+--    taken and given up).
+mod Insides
+mod Chosen
+mod Leasts
+mod Aparts

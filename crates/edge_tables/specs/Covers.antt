@@ -1,36 +1,36 @@
--- Carriers that are chosen from a list by their places.
-use Rattle.std.specs.Prelude.{◌≡◌, ℕ, ◌&&◌, ◌⊎◌, [], Bool, false, List}
-use Rattle.std.specs.List.{flat_map, list_all, list_any, slice_get, sum_by}
-use Rattle.std.specs.Option.{option_to_list}
+-- Carriers with their lines, and what those at certain places have.
+use Rattle.std.specs.Prelude.{◌≡◌, ℕ, Bool, true, List, length, ◌<◌, All, IfSome}
+use Rattle.std.specs.Prelude.{slice_get, option_to_list, sum_by}
+use Rattle.std.specs.List.{flat_map, list_any}
 use Rattle.hex_cells.specs.Sets.{has}
 use Rattle.edge_tables.specs.declared.covers.Choice.{Choice}
 use Rattle.edge_tables.specs.declared.tables.EdgeEntry.{EdgeEntry}
 
--- an entry's carrier, with its lines
-abbrev pub choice_for : EdgeEntry → Choice
-choice_for entry = record { carrier = entry.carrier; lines = entry.lines }
+-- an entry's carrier and lines
+abbrev pub choice_of : EdgeEntry → Choice
+choice_of e = record { carrier = e.carrier; lines = e.lines }
 
--- those at the places; none for a place past the end of the list
-abbrev pub picked : List Choice → List ℕ → List Choice
-picked list places = flat_map (λ place. option_to_list (slice_get list place)) places
+-- the choices at these places of a list
+abbrev pub chosen_of : List Choice → List ℕ → List Choice
+chosen_of list places = flat_map (λ p. option_to_list (slice_get list p)) places
 
--- whether one of the carriers has the cell
-abbrev pub any_has : List Choice → ℕ → Bool
-any_has choices cell = list_any (λ (choice : Choice). has choice.carrier cell) choices
+-- one of the carriers has cell k
+abbrev pub is_covered : List Choice → ℕ → Bool
+is_covered choices k = list_any (λ (c : Choice). has c.carrier k) choices
 
--- whether all of them have it
-abbrev pub all_have : List Choice → ℕ → Bool
-all_have choices cell = list_all (λ (choice : Choice). has choice.carrier cell) choices
+-- the lines of these choices together
+abbrev pub line_sum : List Choice → ℕ
+line_sum choices = sum_by (λ (c : Choice). c.lines) choices
 
--- how many lines they cost
-abbrev pub lines_together : List Choice → ℕ
-lines_together choices = sum_by (λ (choice : Choice). choice.lines) choices
+-- the choice at place p of the list has cell k
+abbrev pub HasAt : List Choice → ℕ → ℕ → Type 0
+HasAt list k p = IfSome (slice_get list p) (λ (c : Choice). has c.carrier k ≡ true)
 
--- no cell of the region is in all the carriers
-abbrev pub HaveNoneInCommon : List Choice → ℕ → Type 0
-HaveNoneInCommon choices region = (cell : ℕ) → (has region cell && all_have choices cell) ≡ false
+-- no cell of the region is of the carriers at all these places
+abbrev pub AreApart : List Choice → ℕ → List ℕ → Type 0
+AreApart list region places = (k : ℕ) → has region k ≡ true → ¬ (All (HasAt list k) places)
 
--- the carriers at these places have no cell of the region in common, or there are no places
-abbrev pub IsCoverOrNone : List Choice → ℕ → List ℕ → Type 0
-IsCoverOrNone list region places =
-    (places ≡ []) ⊎ HaveNoneInCommon (picked list places) region
+-- places of the list, whose carriers have no cell of the region in common if there are places
+pub record IsCover (list : List Choice) (region : ℕ) (places : List ℕ) : Type 0 where
+  pub within : All (λ p. p < length list) places
+  pub apart : 0 < length places → AreApart list region places

@@ -1,51 +1,77 @@
--- Entries: which fit a question, and which make others needless.
-use Rattle.std.specs.Prelude.{◌≡◌, ℕ, ◌*◌, ◌≤◌, ◌++◌, false, List}
-use Rattle.std.specs.List.{Any}
-use Rattle.hex_cells.specs.Sets.{has, members}
+-- The entries of tables, and which of them lie inside a region.
+use Rattle.std.specs.Prelude.{◌≡◌, ℕ, Bool, true, false, ◌+◌, ◌*◌, ◌^◌, ◌≤◌, ◌==◌, ◌&&◌, ◌||◌}
+use Rattle.std.specs.Prelude.{not, List, [], Option, None, Some, nat_eq, All, Contains}
+use Rattle.std.specs.List.{list_all}
+use Rattle.std.specs.declared.hash.FoldHasher.{FoldHasher}
+use Rattle.std.specs.declared.hash.BuildHasherDefault.{BuildHasherDefault}
+use Rattle.indexmap.specs.IndexMap.{IndexMap, get}
+use Rattle.hex_cells.specs.Sets.{has, members, without_cells}
 use Rattle.hex_cells.specs.declared.board_size.TheConstants.{MOST_CELLS}
-use Rattle.conn_store.specs.Laws.{IsSubset}
+use Rattle.hex_cells.specs.declared.colours.Colour.{Colour}
+use Rattle.hex_cells.specs.declared.colours.Colour.TheVariants.{Black, White}
+use Rattle.conn_store.specs.declared.entries.Kind.{Kind}
+use Rattle.conn_store.specs.declared.entries.Kind.TheVariants.{Full, Semi}
 use Rattle.edge_tables.specs.declared.tables.EdgeEntry.{EdgeEntry}
 use Rattle.edge_tables.specs.declared.tables.Key.{Key}
+use Rattle.edge_tables.specs.declared.tables.Measure.{Measure}
+use Rattle.edge_tables.specs.declared.tables.Measure.TheVariants.{Lines, Cells}
+use Rattle.edge_tables.specs.declared.tables.Origin.{Origin}
+use Rattle.edge_tables.specs.declared.tables.Origin.TheVariants.{Report, Move, Cases}
+use Rattle.edge_tables.specs.declared.tables.Scope.{Scope}
+use Rattle.edge_tables.specs.declared.tables.Tables.{Tables}
 
--- the entry has that key, and its carrier lies inside the region
-abbrev pub FitsRegion : Key → ℕ → EdgeEntry → Type 0
-FitsRegion key region entry = (entry.key ≡ key) × IsSubset entry.carrier region
+-- it came by a report
+abbrev pub is_report : Origin → Bool
+is_report (Report cells) = true
+is_report (Move cell) = false
+is_report Cases = false
 
--- one of the entries has that key, and its carrier lies inside the region
-abbrev pub HasFit : List EdgeEntry → Key → ℕ → Type 0
-HasFit entries key region = Any (FitsRegion key region) entries
+-- how much an entry has of what is measured: cells count before lines
+abbrev pub amount_of : Measure → EdgeEntry → ℕ
+amount_of Lines e = e.lines
+amount_of Cells e = members e.carrier MOST_CELLS * 2 ^ 32 + e.lines
 
--- the carrier of one of these misses the cell
-abbrev pub HasFitWithout : List EdgeEntry → Key → ℕ → ℕ → Type 0
-HasFitWithout entries key region cell =
-    Any (λ (entry : EdgeEntry). FitsRegion key region entry × (has entry.carrier cell ≡ false))
-    entries
+-- the entry's carrier lies inside the region: no cell of it is outside
+abbrev pub is_inside : ℕ → EdgeEntry → Bool
+is_inside region e = without_cells e.carrier region == 0
 
--- the one makes the other needless, if they have one key: its carrier lies inside the other's, and
--- it has at most twice as many lines, or if the carriers are equal at most as many
-abbrev pub Replaces : EdgeEntry → EdgeEntry → Type 0
-Replaces one other = IsSubset one.carrier other.carrier × (one.lines ≤ other.lines * 2)
-    × (one.carrier ≡ other.carrier → one.lines ≤ other.lines)
+-- cell k is of the region, and of the carrier of each of the entries inside the region
+abbrev pub is_common : ℕ → List EdgeEntry → ℕ → Bool
+is_common region es k =
+    has region k && list_all (λ (e : EdgeEntry). not (is_inside region e) || has e.carrier k) es
 
--- one of the entries makes this one needless
-abbrev pub IsNeedless : List EdgeEntry → EdgeEntry → Type 0
-IsNeedless entries new =
-    Any (λ (entry : EdgeEntry). (entry.key ≡ new.key) × Replaces entry new) entries
+-- the scopes of a player, by his stones
+abbrev pub Scopes : Type 0
+Scopes = IndexMap ℕ Scope (BuildHasherDefault FoldHasher)
 
--- one of the entries stands wherever this one does: it has the same key, and its carrier lies
--- inside this one's
-abbrev pub HasStandIn : List EdgeEntry → EdgeEntry → Type 0
-HasStandIn entries entry = HasFit entries entry.key entry.carrier
+-- the player's scopes
+abbrev pub scopes_of : Tables → Colour → Scopes
+scopes_of tables Black = tables.black
+scopes_of tables White = tables.white
 
--- the new entries are the old ones, and then others
-abbrev pub IsPrefixOf : List EdgeEntry → List EdgeEntry → Type 0
-IsPrefixOf old new = (more : List EdgeEntry) × (new ≡ old ++ more)
+-- a scope's entries of a kind
+abbrev pub entries_in : Scope → Kind → List EdgeEntry
+entries_in scope Full = scope.full.items
+entries_in scope Semi = scope.semi.items
 
--- if the entry fits, one of these stands wherever it does
-abbrev pub HasStandInIfFits : Key → ℕ → List EdgeEntry → EdgeEntry → Type 0
-HasStandInIfFits key region entries entry = FitsRegion key region entry → HasStandIn entries entry
+-- the same of a scope that may be missing
+abbrev pub entries_at : Option Scope → Kind → List EdgeEntry
+entries_at None kind = []
+entries_at (Some scope) kind = entries_in scope kind
 
--- if the entry fits, the best one has no more cells
-abbrev pub HasAsFew : Key → ℕ → EdgeEntry → EdgeEntry → Type 0
-HasAsFew key region best entry = FitsRegion key region entry
-    → members best.carrier MOST_CELLS ≤ members entry.carrier MOST_CELLS
+-- the entries of a key, the newest last
+abbrev pub entries_of : Tables → Key → List EdgeEntry
+entries_of tables key = entries_at (get nat_eq (scopes_of tables key.player) key.stones) key.kind
+
+-- an entry of the list that lies inside the region, and none of those inside has less
+pub record IsLeast (measure : Measure) (region : ℕ) (es : List EdgeEntry) (e : EdgeEntry)
+    : Type 0 where
+  pub there : Contains es e
+  pub inside : is_inside region e ≡ true
+  pub least : All (λ (other : EdgeEntry). is_inside region other ≡ true
+      → amount_of measure e ≤ amount_of measure other) es
+
+-- such an entry, or none exactly if none lies inside
+abbrev pub IsLeastOf : Measure → ℕ → List EdgeEntry → Option EdgeEntry → Type 0
+IsLeastOf measure region es None = All (λ (e : EdgeEntry). is_inside region e ≡ false) es
+IsLeastOf measure region es (Some e) = IsLeast measure region es e

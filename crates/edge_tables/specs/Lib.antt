@@ -1,4 +1,2 @@
-pub mod Entries
 pub mod Covers
-pub mod Buckets
-pub mod Links
+pub mod Entries

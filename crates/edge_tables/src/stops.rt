@@ -7,8 +7,10 @@ use std::alloc::{AllocError, AllocFailed};
 /// Why a call gave up.
 #[derive(Clone, Copy, Debug, PartialEq, Eq)]
 pub enum Stop {
-    /// A table is full, or a search found no way on.
+    /// A table is full.
     Full,
+    /// A search found no way on.
+    NoWay,
     /// Memory ran out.
     Memory,
 }
@@ -29,16 +31,6 @@ impl<T: Drop> From<AllocFailed<T>> for Stop {
     ghost from_gives = { λ _ stop. stop ≡ Stop.Memory };
 
     fn from(_refused: AllocFailed<T>) -> Stop {
-        Stop::Memory
-    }
-}
-
-impl From<hsearch::Memory> for Stop {
-    ghost use Rattle.edge_tables.specs.declared.stops.Stop.{Stop};
-
-    ghost from_gives = { λ _ stop. stop ≡ Stop.Memory };
-
-    fn from(_refused: hsearch::Memory) -> Stop {
         Stop::Memory
     }
 }

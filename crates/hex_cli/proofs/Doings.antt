@@ -15,7 +15,7 @@ use Rattle.hex_cli.specs.declared.kinds.ModeKind.TheVariants.{Session, WholeInpu
 use Rattle.hex_cli.specs.declared.whole_inputs.InputMode.{InputMode}
 use Rattle.hex_devices.specs.declared.ends.End.{End}
 use Rattle.hex_devices.specs.declared.ends.End.TheVariants.{Usage, Stopped}
-use Rattle.hex_cli.specs.declared.limits.TheConstants.{INPUT_LIMIT}
+use Rattle.hex_io.specs.declared.limits.TheConstants.{INPUT_LIMIT}
 use Rattle.hex_cli.proofs.InputEnds.{IsComplete, IsLong}
 use Rattle.hex_cli.proofs.InputEnds.{input_complete, input_no_usage, input_too_long}
 use Rattle.hex_cli.proofs.RunLaws.{outcome_no_usage, session_complete, session_too_long}

@@ -116,7 +116,8 @@ stands_still options turns before after h o l t = record {
 
 -- a win's cell wins, and a search's is the best of its tree
 chosen_by : (options : Options) (turn : TurnData) (plan : Plan) → turn.planned.plan ≡ plan
-    → FollowsPlan options.knobs turn plan → IsCertified turn → WinsOrIsBest options.knobs turn plan
+    → FollowsPlan options.knobs options.means turn plan → IsCertified turn
+    → WinsOrIsBest options turn plan
 chosen_by options turn (Win cert cell) is follows certified = certified (subst IsWin (sym is) tt)
 chosen_by options turn (Search threats allowed lost) is follows certified = follows
 
@@ -142,9 +143,9 @@ takes_turn options turns before s h o took =
         next = took.next;
         placed = at.0;
         chosen = chosen_by options took.turn took.turn.planned.plan refl good.0.follows
-            (is_certified options.knobs options.hsearch took.turn good.0);
+            (is_certified options.knobs options.means took.turn good.0);
         legal = next_is_legal before.at took.colour took.turn
-            (subst (λ (p : Options). IsGood p.knobs p.hsearch took.turn) (sym h.same) good.0)
+            (subst (λ (p : Options). IsGood p.knobs p.means took.turn) (sym h.same) good.0)
             took.next;
         played = ap (λ (e : EngineState). e.game) took.after;
         written = (took.written.0, ap (λ l. before.text ++ l) took.written.1);
@@ -199,8 +200,8 @@ pub threats_at : (options : Options) (turns : List TurnData) → AreGood options
 threats_at options [] good = tt
 threats_at options (turn ∷ turns) good = (
   record {
-    outside = outside_loses options.knobs options.hsearch turn good.0;
-    where_lost = lost_loses options.knobs options.hsearch turn good.0;
+    outside = outside_loses options.knobs options.means turn good.0;
+    where_lost = lost_loses options.knobs options.means turn good.0;
   },
   threats_at options turns good.1,
 )

@@ -22,7 +22,7 @@ use Rattle.turn_modes.proofs.Handed.{hands_less}
 use Rattle.hex_devices.specs.Statuses.{status_of}
 use Rattle.hex_devices.specs.declared.ends.End.{End}
 use Rattle.hex_devices.proofs.StatusLaws.{same_end}
-use Rattle.hex_cli.specs.declared.limits.TheConstants.{INPUT_LIMIT}
+use Rattle.hex_io.specs.declared.limits.TheConstants.{INPUT_LIMIT}
 use Rattle.hex_cli.proofs.DeterminedLaws.{determined_at}
 use Rattle.hex_cli.proofs.GeneratedMoves.{headline_at, threats_at}
 use Rattle.hex_cli.proofs.Doings.{IsFaultless, does_complete, does_too_long}

@@ -11,7 +11,7 @@ use Rattle.hex_devices.specs.Devices.{DevicesState}
 use Rattle.hex_devices.specs.Statuses.{HasStopped, status_of}
 use Rattle.hex_devices.specs.declared.ends.End.TheVariants.{Done, Rejected}
 use Rattle.hex_cli.specs.Runs.{RunData}
-use Rattle.hex_cli.specs.declared.limits.TheConstants.{INPUT_LIMIT}
+use Rattle.hex_io.specs.declared.limits.TheConstants.{INPUT_LIMIT}
 
 -- with well-formed words the input is too long exactly if one byte more than the limit was taken
 abbrev pub IsTooLong : RunData → Type 0

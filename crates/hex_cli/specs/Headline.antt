@@ -1,5 +1,6 @@
 -- The headline: what stands of each generated move of a session that is done.
-use Rattle.std.specs.Prelude.{◌≡◌, ◌≢◌, ℕ, true, List, [], ◌∷◌, ◌++◌, Option, Some, slice_get}
+use Rattle.std.specs.Prelude.{◌≡◌, ◌≢◌, ℕ, true, List, [], ◌∷◌, ◌++◌, Option, Some, is_some}
+use Rattle.std.specs.Prelude.{slice_get}
 use Rattle.hex_io.specs.Told.{Both}
 use Rattle.htp_line.specs.Answering.{success}
 use Rattle.htp_line.specs.Lines.{lines}
@@ -9,11 +10,10 @@ use Rattle.hex_game.specs.Games.{board_of, is_legal, with_step}
 use Rattle.hex_game.specs.Moves.{step_of}
 use Rattle.hex_game.specs.declared.moves.Move.TheVariants.{Stone}
 use Rattle.tree_words.specs.Closing.{ClosedTree}
-use Rattle.tree_words.specs.declared.settings.Knobs.{Knobs}
 use Rattle.hexd_args.specs.declared.settings.Options as words
-use Rattle.hex_plan.specs.Good.{IsSearchedFor}
+use Rattle.hex_plan.specs.Good.{IsSearchedFor, looks_ahead}
 use Rattle.hex_plan.specs.Laws.{WinsBy}
-use Rattle.hex_plan.specs.Turns.{TurnData}
+use Rattle.hex_plan.specs.Turns.{TurnData, ChoseAmong, searched_cells}
 use Rattle.hex_plan.specs.declared.types.Plan.{Plan}
 use Rattle.hex_plan.specs.declared.types.Plan.TheVariants.{Win, Search}
 use Rattle.hex_engine.specs.declared.options.Options.{Options}
@@ -27,13 +27,16 @@ use Rattle.hex_devices.specs.Devices.{DevicesState}
 use Rattle.hex_devices.specs.declared.ends.End.{End}
 use Rattle.hex_devices.specs.declared.ends.End.TheVariants.{Done}
 
--- If the turn's plan is a win, its cell wins against every reply. If it is a search, the turn
--- has a tree, which was searched for it and is closed: the cell is the least of the root's children
+-- If the turn's plan is a win, its cell wins against every reply. If it is a search, the turn has a
+-- tree, which was searched for it and is closed, among the allowed cells, or, if the session looks
+-- ahead, at the one of them that the look-ahead chose: the cell is the least of the root's children
 -- of most visits, and with one worker the tree is the sequential definition's.
-abbrev pub WinsOrIsBest : Knobs → TurnData → Plan → Type 0
-WinsOrIsBest knobs turn (Win cert cell) = WinsBy turn.board turn.player turn.cell
-WinsOrIsBest knobs turn (Search threats allowed lost) =
-    (tree : ClosedTree) × (turn.closed ≡ Some tree) × IsSearchedFor knobs turn allowed tree
+abbrev pub WinsOrIsBest : Options → TurnData → Plan → Type 0
+WinsOrIsBest options turn (Win cert cell) = WinsBy turn.board turn.player turn.cell
+WinsOrIsBest options turn (Search threats allowed lost) =
+    (is_some turn.looked ≡ looks_ahead options.means) × ChoseAmong allowed turn.looked
+    × (tree : ClosedTree) × (turn.closed ≡ Some tree)
+    × IsSearchedFor options.knobs turn (searched_cells allowed turn.looked) tree
 
 -- A line was answered by a generated move. Its turn is the next one: it has the board of the game
 -- before, this colour to move and the number of turns before, and stands at that place among these
@@ -45,7 +48,7 @@ pub record IsGeneratedMove (options : Options) (turns : List TurnData)
   pub colour : Colour
   pub next : is_next before.at colour turn ≡ true
   pub placed : slice_get turns before.at.turns ≡ Some turn
-  pub chosen : WinsOrIsBest options.knobs turn turn.planned.plan
+  pub chosen : WinsOrIsBest options turn turn.planned.plan
   pub legal : is_legal before.at.game (step_of colour (Stone turn.cell)) ≡ true
   pub played : after.at.game ≡ with_step before.at.game (step_of colour (Stone turn.cell))
   pub written : (id : Option ℕ)

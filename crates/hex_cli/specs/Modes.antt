@@ -1,10 +1,11 @@
 -- What a run does in each of its modes, to its end, told of what its devices tell before and after.
-use Rattle.std.specs.Prelude.{◌≡◌, ℕ, Bool, List, Result}
+use Rattle.std.specs.Prelude.{◌≡◌, ◌&&◌, ◌||◌, ℕ, Bool, List, Result, nat_lt}
 use Rattle.hexd_args.specs.declared.settings.Options.{Options}
 use Rattle.hexd_args.specs.declared.settings.Mode.{Mode}
 use Rattle.hexd_args.specs.declared.settings.Mode.TheVariants.{Htp, Check, Migrate, Audit}
 use Rattle.hexd_args.specs.declared.settings.Mode.TheVariants.{Sim, Bench, Solve}
 use Rattle.hex_plan.specs.Turns.{TurnData}
+use Rattle.hex_plan.specs.declared.settings.Means.{Means}
 use Rattle.hex_engine.specs.Supply.{Supply}
 use Rattle.hex_engine.specs.declared.options.Options as engine
 use Rattle.htp_session.specs.Endings.{Conversed}
@@ -21,17 +22,39 @@ use Rattle.hex_devices.specs.declared.ends.End.{End}
 use Rattle.hex_cli.specs.declared.kinds.ModeKind.{ModeKind}
 use Rattle.hex_cli.specs.declared.kinds.ModeKind.TheVariants.{Session, WholeInput, OneTurn}
 use Rattle.hex_cli.specs.declared.whole_inputs.InputMode.TheVariants as input
-use Rattle.hex_cli.specs.declared.limits.TheConstants.{INPUT_LIMIT}
+use Rattle.hex_io.specs.declared.limits.TheConstants.{INPUT_LIMIT}
 
 -- ---- what the words' options say
 
+-- by what means a session chooses its moves
+abbrev pub means_of : Options → Means
+means_of o = record { hsearch = o.hsearch; solve = o.solve; look = o.look }
+
 -- the engine's options
 abbrev pub engine_options : Options → engine.Options
-engine_options o = record { knobs = o.knobs; hsearch = o.hsearch }
+engine_options o = record { knobs = o.knobs; means = means_of o }
+
+-- one of the two means that an option asks for: a certificate, or a look-ahead
+abbrev pub asks_for_means : Options → Bool
+asks_for_means o = nat_lt 0 o.solve || nat_lt 0 o.look
+
+-- by what means bench chooses its cell: by those of a session if an option asks for one, and
+-- otherwise by the tree's search alone
+abbrev pub bench_means : Options → Means
+bench_means o = record {
+  hsearch = asks_for_means o && o.hsearch;
+  solve = o.solve;
+  look = o.look;
+}
 
 -- what the modes sim and bench are told
 abbrev pub mode_options : Options → ModeOptions
-mode_options o = record { size = o.size; knobs = o.knobs; steps = o.steps }
+mode_options o = record {
+  size = o.size;
+  knobs = o.knobs;
+  steps = o.steps;
+  means = bench_means o;
+}
 
 -- ---- the kinds of mode
 

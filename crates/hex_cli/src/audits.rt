@@ -2,7 +2,7 @@
 
 ghost use Rattle.std.specs.Prelude.{◌≡◌, ◌≤◌, IfOk, length};
 ghost use Rattle.hex_cli.specs.AuditTexts.{IsAuditText, audit_text, is_clean};
-ghost use Rattle.hex_cli.specs.declared.limits.TheConstants.{INPUT_LIMIT};
+ghost use Rattle.hex_io.specs.declared.limits.TheConstants.{INPUT_LIMIT};
 
 use hex_cells::push_number;
 use hex_devices::InputAnswer;

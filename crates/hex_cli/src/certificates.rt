@@ -104,7 +104,7 @@ fn refused(alloc: Global, error: CertError) -> Result<InputAnswer, AllocError>
             })
         }
         CertError::TooManyLines => with_text(alloc, b"too many lines\n", false),
-        CertError::Memory => with_text(alloc, b"", false),
+        CertError::Memory => unreachable!(),
     }
 }
 

@@ -37,8 +37,8 @@
 //!   the words of turn_modes.
 //! - What fails first ends the run: a count of faults rose with its own status (3, 4 or 7) and is
 //!   as before with every other. Status 2 comes exactly if the words are not well formed, 6 exactly
-//!   if one byte more than [`INPUT_LIMIT`] was taken, 7 before a `genmove` that is not refused. The
-//!   errors get the one line of the status.
+//!   if one byte more than [`INPUT_LIMIT`](hex_io::INPUT_LIMIT) was taken, 7 before a `genmove`
+//!   that is not refused. The errors get the one line of the status.
 //! - The shelf is not used in any mode but `htp`, and the archive not if the input is taken whole.
 //!
 //! **What is only tested, or not said.** That memory suffices: a run of well-formed words may
@@ -47,9 +47,9 @@
 //! and writes no more, if it answers that fault's status all the same. That workers run side by
 //! side, which two gates show. How fast it is.
 //!
-//! **Limits.** An input of [`INPUT_LIMIT`] bytes. In mode `htp` answers are given before the next
-//! read, and before many are held, so no memory grows with the input but the game's own; the modes
-//! that take their whole input keep it.
+//! **Limits.** An input of [`INPUT_LIMIT`](hex_io::INPUT_LIMIT) bytes. In mode `htp` answers are
+//! given before the next read, and before many are held, so no memory grows with the input but the
+//! game's own; the modes that take their whole input keep it.
 //!
 //! **Why so.**
 //!
@@ -67,7 +67,8 @@
 //! - The mover of mode `solve` is the player who didn't make the last step, and Black before any.
 //!   The count of stones doesn't tell him: a record may set stones up, a swap changes no count, and
 //!   a player may move twice. A decided board is answered by `over`. What is said of a position is
-//!   any answer that meets the solver's clauses (`IsSolved`), so it names no order of the search.
+//!   any answer that meets the solver's clauses (`IsSolverAnswer`), so it names no order of the
+//!   search.
 //! - A body that goes on after a fault and answers that fault's status at the end meets the clauses
 //!   on counts, which say that a count rose and not how often. The test `faults_each` of
 //!   session_tests refuses it.
@@ -76,7 +77,6 @@
 mod audits;
 mod certificates;
 mod kinds;
-mod limits;
 mod playing;
 mod serving;
 mod single_turns;
@@ -85,5 +85,4 @@ mod solutions;
 mod top;
 mod whole_inputs;
 
-pub use limits::INPUT_LIMIT;
 pub use top::run;

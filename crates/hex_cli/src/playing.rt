@@ -8,11 +8,10 @@ ghost use Rattle.hex_cli.specs.Modes.{engine_options};
 ghost use Rattle.hex_cli.specs.Playing.{HasGoodTurns};
 ghost use Rattle.hex_devices.specs.Statuses.{stop_in};
 
-use crate::limits::INPUT_LIMIT;
 use crate::sizes::board_size;
 use hex_devices::{Devices, End};
-use hex_io::{Link, Shelf};
-use hex_plan::Archive;
+use hex_io::{INPUT_LIMIT, Link, Shelf};
+use hex_plan::{Archive, Means};
 use hexd_args::Options;
 use htp_session::converse;
 use search_team::Gate;
@@ -48,6 +47,10 @@ fn engine_options(options: &Options) -> hex_engine::Options
 {
     hex_engine::Options {
         knobs: options.knobs,
-        hsearch: options.hsearch,
+        means: Means {
+            hsearch: options.hsearch,
+            solve: options.solve,
+            look: options.look,
+        },
     }
 }

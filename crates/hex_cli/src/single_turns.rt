@@ -5,14 +5,14 @@ ghost use Rattle.tree_words.specs.Settings.{AreInRange};
 ghost use Rattle.hexd_args.specs.Values as value;
 ghost use Rattle.hex_devices.specs.Devices.{CountsStop};
 ghost use Rattle.turn_modes.specs.HandingIn.{IsTurnOf};
-ghost use Rattle.hex_cli.specs.Modes.{HandsInBy, mode_options};
+ghost use Rattle.hex_cli.specs.Modes.{HandsInBy, bench_means, mode_options};
 ghost use Rattle.hex_cli.specs.Runs.{IsUnfetched};
 ghost use Rattle.hex_devices.specs.Statuses.{stop_in};
 
 use crate::sizes::board_size;
 use hex_devices::{Devices, End};
 use hex_io::{Link, Shelf};
-use hex_plan::Archive;
+use hex_plan::{Archive, Means};
 use hexd_args::Options;
 use search_team::Gate;
 use std::alloc::Global;
@@ -47,5 +47,19 @@ fn mode_options(options: &Options) -> ModeOptions
         size: board_size(options.size),
         knobs: options.knobs,
         steps: options.steps,
+        means: bench_means(options),
+    }
+}
+
+/// By what means bench chooses its cell: those of a session, if an option asks for certificates or
+/// a look-ahead; otherwise the tree's search alone.
+fn bench_means(options: &Options) -> Means
+    ensures { result ≡ bench_means options.now }
+{
+    let asked = 0 < options.solve || 0 < options.look;
+    Means {
+        hsearch: asked && options.hsearch,
+        solve: options.solve,
+        look: options.look,
     }
 }

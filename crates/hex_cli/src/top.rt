@@ -39,8 +39,8 @@ use std::thread::Threads;
 /// and the archive takes the turn of each `genmove`. Modes `check`, `migrate`, `audit` and `solve`
 /// take the whole input and give one text for it. That is the verdict on a certificate, the
 /// certificate in its latest version, the verdict on traces of closed trees, or who wins the
-/// position of a record. Modes `sim` and `bench` read nothing: they search one position, hand the
-/// turn to the archive, and give one text that says it.
+/// position of a record. Modes `sim` and `bench` read nothing: they decide the turn of one
+/// position, hand it to the archive, and give one text that says it.
 ///
 /// Searches run in threads of the devices' runtime, and their workers pass their gate; no clause
 /// speaks of these.
@@ -56,7 +56,7 @@ use std::thread::Threads;
 /// | 6 | exactly if one byte more than the limit was taken | `hexd: input too long` |
 /// | 7 | only if the archive failed | `hexd: archive fault` |
 ///
-/// The limit is [`INPUT_LIMIT`](crate::INPUT_LIMIT). If a session of `htp` stopped early, it had
+/// The limit is [`INPUT_LIMIT`](hex_io::INPUT_LIMIT). If a session of `htp` stopped early, it had
 /// given
 ///
 /// - with 3, the answers to all whole lines taken;

@@ -5,14 +5,13 @@ ghost use Rattle.hex_cli.specs.WholeInputs.{IsTextOf};
 ghost use Rattle.hex_cli.specs.Modes.{AnswersBy};
 ghost use Rattle.hex_cli.specs.Runs.{IsUnarchived, IsUnfetched};
 ghost use Rattle.hex_devices.specs.Statuses.{stop_in};
-ghost use Rattle.hex_cli.specs.declared.limits.TheConstants.{INPUT_LIMIT};
+ghost use Rattle.hex_io.specs.declared.limits.TheConstants.{INPUT_LIMIT};
 
 use crate::audits::audit_traces;
 use crate::certificates::{check_certificate, migrate_certificate};
-use crate::limits::INPUT_LIMIT;
 use crate::solutions::solve_record;
 use hex_devices::{Devices, End, InputAnswer, InputReader, answer_input};
-use hex_io::{Link, Shelf};
+use hex_io::{INPUT_LIMIT, Link, Shelf};
 use hex_plan::Archive;
 use search_team::Gate;
 use std::alloc::{AllocError, Global};

@@ -1,5 +1,5 @@
 -- How a run ends: its status, and the line that it gives to the errors.
-use Rattle.std.specs.Prelude.{◌≡◌, Bool, true, false, ℕ, List, [], Result, Ok, Err, codes}
+use Rattle.std.specs.Prelude.{◌≡◌, ◌⊎◌, Bool, true, false, ℕ, List, [], Result, Ok, Err, codes}
 use Rattle.std.specs.Prelude.{Option, Some, None}
 use Rattle.hex_io.specs.Reported.{Reported}
 use Rattle.hex_io.specs.declared.links.Link as links
@@ -17,6 +17,10 @@ use Rattle.hex_devices.specs.declared.ends.End.TheVariants.{Done, Rejected, Usag
 abbrev pub end_for : Outcome → End
 end_for (Ok done) = Done
 end_for (Err stop) = Stopped stop
+
+-- how a program ends that can't have its arguments: one is no text, or memory ran out
+abbrev pub EndsWithoutArguments : End → Type 0
+EndsWithoutArguments end = (end ≡ Usage) ⊎ (end ≡ Stopped Memory)
 
 -- how a run ends that answered its whole input, accepted or not, or stopped before
 abbrev pub end_of_answer : Result Bool AnswerError → End

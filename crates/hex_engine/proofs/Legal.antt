@@ -25,7 +25,8 @@ pub next_board : (at : EngineState) (colour : Colour) (turn : TurnData)
 next_board at colour turn next = same_board turn.board (board_of at.game) (and_parts _ _ next).0
 
 pub next_is_legal : (at : EngineState) (colour : Colour) (turn : TurnData)
-    → IsGood at.options.knobs at.options.hsearch turn → is_next at colour turn ≡ true
+    → IsGood at.options.knobs at.options.means turn
+    → is_next at colour turn ≡ true
     → is_legal at.game (step_of colour (Stone turn.cell)) ≡ true
 next_is_legal at colour turn good next =
     let now : Position = board_of at.game in

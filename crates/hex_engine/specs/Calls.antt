@@ -38,7 +38,7 @@ AnswersMove engine args archive archive_now answer after = (turns : List TurnDat
 abbrev pub TakesNext : EngineState → Colour → Option (List TurnData) → Option (List TurnData)
     → Answer → EngineState → Type 0
 TakesNext engine colour archive archive_now answer after = (turn : TurnData)
-    × IsGood engine.options.knobs engine.options.hsearch turn
+    × IsGood engine.options.knobs engine.options.means turn
     × (is_next engine colour turn ≡ true)
     × Both archive archive_now (λ o n. n ≡ o ++ turn ∷ [])
     × Reacts (turned engine colour turn) answer after

@@ -15,6 +15,7 @@ commands = command.Quiet quiet.BoardSize
     ∷ command.Quiet quiet.KnownCommand
     ∷ command.Quiet quiet.ListCommands
     ∷ command.LoadSgf
+    ∷ command.Quiet quiet.LookReport
     ∷ command.Quiet quiet.MustPlay
     ∷ command.Quiet quiet.Name
     ∷ command.Quiet quiet.Play
@@ -37,6 +38,7 @@ name_of command.GenMove = codes "genmove"
 name_of (command.Quiet quiet.KnownCommand) = codes "known_command"
 name_of (command.Quiet quiet.ListCommands) = codes "list_commands"
 name_of command.LoadSgf = codes "loadsgf"
+name_of (command.Quiet quiet.LookReport) = codes "look-report"
 name_of (command.Quiet quiet.MustPlay) = codes "mustplay"
 name_of (command.Quiet quiet.Name) = codes "name"
 name_of (command.Quiet quiet.Play) = codes "play"

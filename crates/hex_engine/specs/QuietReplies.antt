@@ -18,6 +18,7 @@ use Rattle.hex_engine.specs.Replies.{Reply, Done, Failed}
 use Rattle.hex_engine.specs.Replies as reply
 use Rattle.hex_engine.specs.declared.answers.Fail.{Fail}
 use Rattle.hex_engine.specs.declared.answers.Fail.TheVariants.{Syntax, NoSearch, NoCert}
+use Rattle.hex_engine.specs.declared.answers.Fail.TheVariants.{NoLook}
 use Rattle.hex_engine.specs.declared.commands.Quiet.{Quiet}
 use Rattle.hex_engine.specs.declared.commands.Quiet.TheVariants as quiet
 
@@ -33,14 +34,16 @@ knowing (word ∷ []) =
     Done (if is_some (command_named word) then codes "true" else codes "false")
 knowing (word ∷ other ∷ words) = Failed Syntax
 
--- What a command that uses nothing up does with these arguments, if it takes any. The three that
--- ask for the last turn answer its report, what `mustplay` says of it, and its certificate, if
--- there is one.
+-- What a command that uses nothing up does with these arguments, if it takes any. The four that ask
+-- for the last turn answer its report, what its look-ahead found, what `mustplay` says of it, and
+-- its certificate, if there is one.
 abbrev pub obeyed_quietly : EngineState → Quiet → List (List ℕ) → QuietReaction
 obeyed_quietly engine quiet.BoardSize args = resized engine.game (sizes_of args)
 obeyed_quietly engine quiet.ClearBoard args = emptied (board_of engine.game).size
 obeyed_quietly engine quiet.KnownCommand args = reply_alone engine.game (knowing args)
 obeyed_quietly engine quiet.ListCommands args = reply_alone engine.game (Done all_names)
+obeyed_quietly engine quiet.LookReport args = reply_alone engine.game
+    (text_or NoLook (option_and_then (λ (texts : TurnTextsData). texts.look) engine.last))
 obeyed_quietly engine quiet.MustPlay args = reply_alone engine.game
     (text_or NoSearch (option_map (λ (texts : TurnTextsData). texts.mustplay) engine.last))
 obeyed_quietly engine quiet.Name args = reply_alone engine.game (Done (codes "hexd"))

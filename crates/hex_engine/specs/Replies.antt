@@ -5,7 +5,7 @@ use Rattle.hex_engine.specs.Supply.{Supply}
 use Rattle.hex_engine.specs.declared.answers.Fail.{Fail}
 use Rattle.hex_engine.specs.declared.answers.Fail.TheVariants.{UnknownCommand, Syntax, Size}
 use Rattle.hex_engine.specs.declared.answers.Fail.TheVariants.{Illegal, Over, NoUndo, ReadFault}
-use Rattle.hex_engine.specs.declared.answers.Fail.TheVariants.{NoSearch, NoCert}
+use Rattle.hex_engine.specs.declared.answers.Fail.TheVariants.{NoSearch, NoCert, NoLook}
 use Rattle.hex_engine.specs.declared.answers.Fail.TheVariants as fail
 
 -- an answer without where it lies in memory
@@ -42,6 +42,7 @@ message fail.NoLoad = codes "cannot load file"
 message ReadFault = codes "read fault"
 message NoSearch = codes "no search"
 message NoCert = codes "no certificate"
+message NoLook = codes "no look"
 
 -- an answer after which all stands as before
 abbrev pub unchanged : EngineState → Reply → Reaction

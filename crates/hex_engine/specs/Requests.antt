@@ -36,7 +36,7 @@ unfoldable pub reaction : EngineState → Supply → Request → Result Turned M
 reaction engine left request =
     reaction_by engine left (command_named request.name) request.args
 
--- whether a command uses nothing up; one that is not built doesn't
+-- whether a command uses nothing up; a name that is no command uses nothing up either
 abbrev pub is_quiet_command : Option Command → Bool
 is_quiet_command None = true
 is_quiet_command (Some (command.Quiet _)) = true

@@ -54,12 +54,12 @@ Loading old new used in_vain = Both old new (λ o n. FetchesLoads o n used.loads
 abbrev pub AreGood : Options → List TurnData → Type 0
 AreGood options [] = Unit {0}
 AreGood options (turn ∷ turns) =
-    IsGood options.knobs options.hsearch turn × AreGood options turns
+    IsGood options.knobs options.means turn × AreGood options turns
 
 -- one worker searches, and no connections are looked for
 pub record HasOneWorker (options : Options) : Type 0 where
   pub workers : options.knobs.workers ≡ 1
-  pub no_connections : options.hsearch ≡ false
+  pub no_connections : options.means.hsearch ≡ false
 
 -- the archive, if it tells it, took these turns, and each is good
 pub record Moving (options : Options) (old new : Option (List TurnData))

@@ -31,6 +31,8 @@ pub enum Fail {
     NoSearch = 9,
     /// No turn was made yet, or the last turn's plan is no win.
     NoCert = 10,
+    /// No turn was made yet, or the last turn had no look-ahead.
+    NoLook = 11,
 }
 
 impl Fail {
@@ -49,6 +51,7 @@ impl Fail {
             Fail::ReadFault => "read fault",
             Fail::NoSearch => "no search",
             Fail::NoCert => "no certificate",
+            Fail::NoLook => "no look",
         }
     }
 }

@@ -28,6 +28,8 @@ pub enum Quiet {
     KnownCommand,
     /// Asks for the names of all commands.
     ListCommands,
+    /// Asks for what the last turn's look-ahead found.
+    LookReport,
     /// Asks for what was known before the last turn was searched.
     MustPlay,
     /// Asks for the engine's name.
@@ -62,6 +64,7 @@ pub const COMMANDS: &[Command] = &[
     Command::Quiet(Quiet::KnownCommand),
     Command::Quiet(Quiet::ListCommands),
     Command::LoadSgf,
+    Command::Quiet(Quiet::LookReport),
     Command::Quiet(Quiet::MustPlay),
     Command::Quiet(Quiet::Name),
     Command::Quiet(Quiet::Play),
@@ -99,6 +102,7 @@ impl Command {
             Command::Quiet(Quiet::KnownCommand) => "known_command",
             Command::Quiet(Quiet::ListCommands) => "list_commands",
             Command::LoadSgf => "loadsgf",
+            Command::Quiet(Quiet::LookReport) => "look-report",
             Command::Quiet(Quiet::MustPlay) => "mustplay",
             Command::Quiet(Quiet::Name) => "name",
             Command::Quiet(Quiet::Play) => "play",

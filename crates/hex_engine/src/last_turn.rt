@@ -1,4 +1,5 @@
-//! The quiet commands that ask for the last turn: `search-report`, `mustplay` and `wincert`.
+//! The quiet commands that ask for the last turn: `search-report`, `look-report`, `mustplay` and
+//! `wincert`.
 
 ghost use Rattle.std.specs.Prelude.{IfOk};
 ghost use Rattle.std.specs.Option.{option_and_then, option_map};
@@ -23,6 +24,23 @@ pub fn tell_report(alloc: Global, last: &Option<TurnTexts>) -> Result<Answer, Me
     match texts.report() {
         Some(text) => tell(alloc, text),
         None => Ok(Answer::Fail(Fail::NoSearch)),
+    }
+}
+
+/// `look-report`.
+/// Fails: `no look`.
+/// Answers how many nodes the last turn's look-ahead judged, and of each cell that it was given the
+/// walks by it, its value in thousandths, and who wins after it, if that is known.
+pub fn tell_look(alloc: Global, last: &Option<TurnTexts>) -> Result<Answer, Memory>
+    ensures { IfOk result (Tells
+        (text_or Fail.NoLook (option_and_then (λ texts. texts.look) last.now))) }
+{
+    let Some(texts) = last else {
+        return Ok(Answer::Fail(Fail::NoLook));
+    };
+    match texts.look() {
+        Some(text) => tell(alloc, text),
+        None => Ok(Answer::Fail(Fail::NoLook)),
     }
 }
 

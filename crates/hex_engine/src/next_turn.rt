@@ -37,7 +37,7 @@ impl Engine {
     ) -> Result<Prepared, Memory>
         requires { may_move (board_of self.now.game) ≡ true }
         ensures good { IfOk result
-            (λ next. IsGood self.now.options.knobs self.now.options.hsearch next.turn) }
+            (λ next. IsGood self.now.options.knobs self.now.options.means next.turn) }
         ensures next { IfOk result (λ next. is_next self.now colour next.turn ≡ true) }
         ensures texts { IfOk result (λ next. next.texts ≡ texts_of next.turn) }
         ensures vertex { IfOk result (λ next.
@@ -63,14 +63,14 @@ impl Engine {
     ) -> Result<Turn, Memory>
         requires { may_move (board_of self.now.game) ≡ true }
         ensures good { IfOk result
-            (IsGood self.now.options.knobs self.now.options.hsearch) }
+            (IsGood self.now.options.knobs self.now.options.means) }
         ensures next { IfOk result (λ turn. is_next self.now colour turn ≡ true) }
     {
         let board = self.game.board();
         let knobs = &self.options.knobs;
-        let hsearch = self.options.hsearch;
+        let means = self.options.means;
         match decided_turn(
-            rt, self.alloc, board, colour, self.turns, knobs, hsearch, gate,
+            rt, self.alloc, board, colour, self.turns, knobs, means, gate,
         ) {
             Ok(turn) => Ok(turn),
             Err(_) => Err(Memory),

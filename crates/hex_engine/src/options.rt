@@ -1,5 +1,6 @@
 //! How an engine chooses its moves.
 
+use hex_plan::Means;
 use tree_words::Knobs;
 
 /// How an engine chooses its moves.
@@ -7,6 +8,6 @@ use tree_words::Knobs;
 pub struct Options {
     /// The knobs of its searches. The seed is that of the first turn's.
     pub knobs: Knobs,
-    /// Whether it looks for virtual connections before it searches.
-    pub hsearch: bool,
+    /// By what means it chooses beside its searches.
+    pub means: Means,
 }

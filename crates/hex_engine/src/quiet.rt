@@ -8,7 +8,7 @@ ghost use Rattle.hex_engine.specs.Requests.{AnsweredQuietly, Reacts, TellsNoFaul
 use super::answers::{Answer, Fail, Memory};
 use super::boards::{clear, play, resize, undo};
 use super::commands::{Command, Quiet};
-use super::last_turn::{tell_certificate, tell_plan, tell_report};
+use super::last_turn::{tell_certificate, tell_look, tell_plan, tell_report};
 use super::state::Engine;
 use super::telling::{know, list, name_of_winner, print_game, show, tell};
 use htp_line::{Bytes, Request};
@@ -62,6 +62,7 @@ impl Engine {
             Quiet::ClearBoard => Ok(clear(alloc, &mut self.game)),
             Quiet::KnownCommand => know(alloc, args),
             Quiet::ListCommands => list(alloc),
+            Quiet::LookReport => tell_look(alloc, &self.last),
             Quiet::MustPlay => tell_plan(alloc, &self.last),
             Quiet::Name => tell(alloc, b"hexd"),
             Quiet::Play => Ok(play(alloc, &mut self.game, args)),

@@ -1,306 +1,353 @@
-//! The blocks of a certificate, made of what a search found: scopes from few stones to many, and
-//! what each is to show served by the entries that cost least. An entry by a stone needs one with a
-//! stone more, so all needs of a scope are there before its turn.
+//! Drafts of a certificate, made of what a search found: scopes from few stones to many, each
+//! written once. An entry by a stone needs one with a stone more, so all needs of a scope are there
+//! before its turn.
 
-use super::blocks::{Blocks, MOST_PARTS, Part};
 use super::certificates::claim_for;
-use super::derivations::{Room, cut_board, derive};
-use super::prices::{priced, prices_of};
+use super::derivers::Deriver;
+use super::drafts::{At, Draft, Need, Stone};
+use super::prices::{By, Way};
+use super::scenes::{Scene, Shown};
 use conn_store::Kind;
-use edge_tables::{Choice, EdgeEntry, Key, NOWHERE, Origin, Saving, Stop, Tables, cover};
-use hex_cells::{Cell, CellSet, Colour, Size};
+use edge_tables::{Stop, Tables};
+use hex_cells::{CellSet, Colour};
 use hex_scout::State;
-use std::alloc::Global;
-use win_cert::MOST_CASES;
+use std::alloc::{AllocError, Global};
 
-// Cases that are to be written: needs of the same scope, from this place on, and how many.
-#[derive(Clone, Copy, Debug, PartialEq, Eq)]
-struct Waiting {
-    first: u32,
-    count: u32,
-}
+// The most scopes of a draft.
+const MOST_SCOPES: usize = 1_000_000;
 
-// The scope whose block is being written: its place, and where its lines begin.
-#[derive(Clone, Copy, Debug, PartialEq, Eq)]
-struct Block {
-    scope: u32,
-    first: u32,
-}
+// Needs are served together if that adds less than so many hundredths of what one costs alone.
+const JOINED: u64 = 70;
 
-// What is assembled.
+// Full needs that are served together.
 #[derive(Drop)]
-struct Assembly {
-    blocks: Blocks,
-    room: Room,
-    size: Size,
-    player: Colour,
+struct Group {
+    region: CellSet,
+    cost: u64,
+    shown: Shown,
+    needs: Vec<usize>,
 }
 
-/// The blocks that show that the player wins at the root; `None` if something is missing.
+// A semi need that is open, and the region in which another entry would do.
+#[derive(Clone, Copy, Debug)]
+struct Open {
+    need: usize,
+    region: CellSet,
+    wide: CellSet,
+}
+
+/// A draft that shows that the player wins at the root; `None` if something is missing.
 pub(crate) fn assemble(
     alloc: Global,
+    deriver: &mut Deriver,
     tables: &Tables,
     root: &State,
     player: Colour,
-) -> Result<Option<Blocks>, Stop> {
-    let blocks = Blocks::make(alloc)?;
-    let room = Room::make(alloc)?;
-    let mut assembly = Assembly {
-        blocks,
-        room,
-        size: root.board.size(),
-        player,
-    };
+) -> Result<Option<Draft>, Stop> {
+    let mut draft = Draft::new(alloc, player);
     let stones = root.board.stones(player);
     let kind = claim_for(player, root.mover);
-    let _root = assembly
-        .blocks
-        .add_need(stones, kind, root.board.empties())?;
-    for scope in 0..MOST_PARTS as u32 {
-        if assembly.blocks.scope(scope).is_none() {
-            return Ok(Some(assembly.blocks));
+    let _root = draft.add_need(alloc, stones, kind, root.board.empties())?;
+    for scope in 0..MOST_SCOPES {
+        if draft.block(scope).is_none() {
+            return Ok(Some(draft));
         }
-        if !assembly.show(alloc, tables, scope)? {
+        if !show(alloc, deriver, tables, &mut draft, scope)? {
             return Ok(None);
         }
     }
     Ok(None)
 }
 
-impl Assembly {
-    // Writes the block of a scope: whether nothing is missing.
-    fn show(&mut self, alloc: Global, tables: &Tables, scope: u32) -> Result<bool, Stop> {
-        let block = Block {
-            scope,
-            first: self.blocks.begin(scope),
-        };
-        let mut waiting = Vec::new(alloc);
-        let full = self.serve_all(alloc, tables, block, Kind::Full, &mut waiting)?;
-        let semi = self.serve_all(alloc, tables, block, Kind::Semi, &mut waiting)?;
-        self.write_cases(block, &waiting)?;
-        self.blocks.end(scope);
-        Ok(full && semi)
+// Writes the block of a scope: whether nothing is missing.
+fn show(
+    alloc: Global,
+    deriver: &mut Deriver,
+    tables: &Tables,
+    draft: &mut Draft,
+    scope: usize,
+) -> Result<bool, Stop> {
+    let Some(block) = draft.block(scope) else {
+        return Ok(false);
+    };
+    let stones = block.stones;
+    let places = block.needs.to_vec(alloc)?;
+    let mut needs = Vec::new(alloc);
+    for place in places.iter() {
+        if let Some(need) = draft.need(*place) {
+            needs.push(need)?;
+        }
     }
+    let mut scene = Scene::make(alloc, deriver, tables, draft, stones, &needs)?;
+    let Some(groups) = groups_of(alloc, &scene, &places, &needs)? else {
+        return Ok(false);
+    };
+    let mut open = open_needs(alloc, &places, &needs)?;
+    for group in groups {
+        serve_group(alloc, draft, scope, &mut scene, group, &mut open)?;
+    }
+    let all = serve_open(alloc, draft, scope, &mut scene, open)?;
+    if let Some(block) = draft.blocks.get_index_mut(scope) {
+        block.pool = scene.pool;
+    }
+    Ok(all)
+}
 
-    // Serves all needs of a scope and kind: whether nothing is missing.
-    fn serve_all(
-        &mut self,
-        alloc: Global,
-        tables: &Tables,
-        block: Block,
-        kind: Kind,
-        waiting: &mut Vec<Waiting>,
-    ) -> Result<bool, Stop> {
-        let Some(scope) = self.blocks.scope(block.scope) else {
-            return Ok(false);
-        };
-        let key = Key {
-            player: self.player,
-            kind,
-            stones: scope.stones,
-        };
-        let cells = self.blocks.open_cells(block.scope, kind);
-        let entries = tables.list(alloc, &key, cells)?;
-        let prices = prices_of(alloc, &self.blocks, tables, &entries)?;
-        for _pick in 0..MOST_PARTS {
-            if self.blocks.open_cells(block.scope, kind).is_empty() {
-                return Ok(true);
+// The semi needs.
+fn open_needs(alloc: Global, places: &[usize], needs: &[Need]) -> Result<Vec<Open>, AllocError> {
+    let mut open = Vec::new(alloc);
+    for (need, what) in places.iter().zip(needs.iter()) {
+        if what.kind == Kind::Semi {
+            open.push(Open {
+                need: *need,
+                region: what.region,
+                wide: what.region,
+            })?;
+        }
+    }
+    Ok(open)
+}
+
+// The full needs in groups; `None` if one can't be served.
+fn groups_of(
+    alloc: Global,
+    scene: &Scene,
+    places: &[usize],
+    needs: &[Need],
+) -> Result<Option<Vec<Group>>, AllocError> {
+    let mut fulls = Vec::new(alloc);
+    for (need, what) in places.iter().zip(needs.iter()) {
+        if what.kind == Kind::Full {
+            fulls.push((what.region, *need))?;
+        }
+    }
+    fulls.sort_unstable_by_key(|full| (full.0.count(), full.0.bits(), full.1));
+    let mut groups: Vec<Group> = Vec::new(alloc);
+    for (region, need) in fulls.iter() {
+        if !put_in_group(alloc, scene, *region, *need, &mut groups)? {
+            return Ok(None);
+        }
+    }
+    Ok(Some(groups))
+}
+
+// Puts a full need into a group, or into one of its own: whether it can be served.
+fn put_in_group(
+    alloc: Global,
+    scene: &Scene,
+    region: CellSet,
+    need: usize,
+    groups: &mut Vec<Group>,
+) -> Result<bool, AllocError> {
+    let alone = scene.cheapest(alloc, region)?;
+    let mut most = match &alone {
+        Some((cost, _shown)) => cost.saturating_mul(JOINED) / 100,
+        None => u64::MAX,
+    };
+    let mut best: Option<(usize, u64, Shown)> = None;
+    for place in 0..groups.len() {
+        if let Some(group) = groups.get(place)
+            && let Some((cost, shown)) = scene.cheapest(alloc, group.region.meet(region))?
+            && cost.saturating_sub(group.cost) <= most
+        {
+            most = cost.saturating_sub(group.cost);
+            best = Some((place, cost, shown));
+        }
+    }
+    if let Some((place, cost, shown)) = best
+        && let Some(group) = groups.get_mut(place)
+    {
+        group.region = group.region.meet(region);
+        group.cost = cost;
+        group.shown = shown;
+        group.needs.push(need)?;
+        return Ok(true);
+    }
+    let Some((cost, shown)) = alone else {
+        return Ok(false);
+    };
+    let mut needs = Vec::new(alloc);
+    needs.push(need)?;
+    groups.push(Group {
+        region,
+        cost,
+        shown,
+        needs,
+    })?;
+    Ok(true)
+}
+
+// Serves the needs of a group.
+fn serve_group(
+    alloc: Global,
+    draft: &mut Draft,
+    scope: usize,
+    scene: &mut Scene,
+    group: Group,
+    open: &mut Vec<Open>,
+) -> Result<(), Stop> {
+    let Group {
+        region,
+        cost: _,
+        shown,
+        needs,
+    } = group;
+    match shown {
+        Shown::Derived(place) => {
+            if let Some(derived) = scene.have.get(place) {
+                scene.pool.choose(&derived.places);
+                draft.serve(&needs, At::Derived(derived.own));
             }
-            let Some(entry) = self.best(block.scope, kind, &entries, &prices) else {
-                return Ok(false);
+            Ok(())
+        }
+        Shown::Cases(carriers) => {
+            let sharing = scene.sharing_cover(alloc, region)?;
+            let carriers = if sharing.is_empty() {
+                carriers
+            } else {
+                sharing
             };
-            if !self.serve(alloc, tables, block, &entry, waiting)? {
-                return Ok(false);
-            }
+            let stones = scene.stones;
+            let line = add_cases(alloc, draft, scope, stones, region, &carriers, open)?;
+            draft.serve(&needs, At::Cases(line));
+            Ok(())
         }
-        Ok(false)
-    }
-
-    // The entry that costs least for each need that it serves.
-    fn best(
-        &self,
-        scope: u32,
-        kind: Kind,
-        entries: &[EdgeEntry],
-        prices: &[u64],
-    ) -> Option<EdgeEntry> {
-        let mut best: Option<EdgeEntry> = None;
-        let mut best_price = 1u64;
-        let mut best_count = 0u64;
-        for place in 0..entries.len() {
-            if let Some(entry) = entries.get(place)
-                && let Some(price) = prices.get(place)
-            {
-                let count = u64::from(self.blocks.served_count(scope, kind, entry.carrier));
-                if price.saturating_mul(best_count) < best_price.saturating_mul(count) {
-                    best = Some(*entry);
-                    best_price = *price;
-                    best_count = count;
-                }
-            }
-        }
-        best
-    }
-
-    // Serves needs by an entry: whether nothing is missing.
-    fn serve(
-        &mut self,
-        alloc: Global,
-        tables: &Tables,
-        block: Block,
-        entry: &EdgeEntry,
-        waiting: &mut Vec<Waiting>,
-    ) -> Result<bool, Stop> {
-        let line = match entry.origin {
-            Origin::Cut(region) => self.cut(alloc, block, entry, region)?,
-            Origin::Move(cell) => self.add_move(block, entry, cell)?,
-            Origin::Cases => return self.wait(alloc, tables, block, entry, waiting),
-        };
-        self.blocks
-            .serve(block.scope, entry.key.kind, entry.carrier, line, NOWHERE);
-        Ok(line != NOWHERE)
-    }
-
-    // The line of an entry that is cut: on the board where its carrier alone is empty, else on that
-    // where it was found.
-    fn cut(
-        &mut self,
-        alloc: Global,
-        block: Block,
-        entry: &EdgeEntry,
-        region: CellSet,
-    ) -> Result<u32, Stop> {
-        let narrow = self.cut_in(alloc, block, entry, entry.carrier)?;
-        if narrow != NOWHERE {
-            return Ok(narrow);
-        }
-        self.cut_in(alloc, block, entry, region)
-    }
-
-    // The line of an entry that is cut on the board where this region is empty.
-    fn cut_in(
-        &mut self,
-        alloc: Global,
-        block: Block,
-        entry: &EdgeEntry,
-        region: CellSet,
-    ) -> Result<u32, Stop> {
-        let board = cut_board(self.size, &entry.key, region);
-        derive(
-            alloc,
-            &mut self.blocks,
-            &mut self.room,
-            &board,
-            entry,
-            block.first,
-        )
-    }
-
-    // The line of an entry by a stone, and the need of what shows that the player wins then.
-    fn add_move(&mut self, block: Block, entry: &EdgeEntry, cell: Cell) -> Result<u32, Stop> {
-        let stones = entry.key.stones.with(cell);
-        let region = entry.carrier.without(cell);
-        let need = self.blocks.add_need(stones, Kind::Full, region)?;
-        self.blocks.add_part(&Part::Move(cell, need), block.first)
-    }
-
-    // Adds the needs of cases, for which those wait that the entry serves.
-    fn wait(
-        &mut self,
-        alloc: Global,
-        tables: &Tables,
-        block: Block,
-        entry: &EdgeEntry,
-        waiting: &mut Vec<Waiting>,
-    ) -> Result<bool, Stop> {
-        let region = self
-            .blocks
-            .served_region(block.scope, Kind::Full, entry.carrier);
-        let semi = Key {
-            kind: Kind::Semi,
-            ..entry.key
-        };
-        let entries = tables.list(alloc, &semi, region)?;
-        let list = priced(alloc, &self.blocks, tables, &entries)?;
-        let chosen = cover(alloc, &list, region, Saving::Lines)?;
-        let first = self.blocks.needs.len();
-        if chosen.len() < 2 || MOST_CASES < chosen.len() {
-            return Ok(false);
-        }
-        if MOST_PARTS < first {
-            return Err(Stop::Full);
-        }
-        self.add_cases(&semi, &list, &chosen)?;
-        self.blocks.serve(
-            block.scope,
-            Kind::Full,
-            entry.carrier,
-            NOWHERE,
-            first as u32,
-        );
-        waiting.push(Waiting {
-            first: first as u32,
-            count: chosen.len() as u32,
-        })?;
-        Ok(true)
-    }
-
-    // Adds a need for each choice.
-    fn add_cases(&mut self, semi: &Key, list: &[Choice], chosen: &[u32]) -> Result<(), Stop> {
-        for place in chosen {
-            self.add_case(semi, list, *place)?;
-        }
-        Ok(())
-    }
-
-    // Adds a need for the choice at a place.
-    fn add_case(&mut self, semi: &Key, list: &[Choice], place: u32) -> Result<(), Stop> {
-        let Some(choice) = list.get(place as usize) else {
-            return Ok(());
-        };
-        let _need = self
-            .blocks
-            .add_need(semi.stones, Kind::Semi, choice.carrier)?;
-        Ok(())
-    }
-
-    // Writes the lines that cases wait for.
-    fn write_cases(&mut self, block: Block, waiting: &[Waiting]) -> Result<(), Stop> {
-        for cases in waiting {
-            let from = self.blocks.cases.len();
-            if MOST_PARTS < from {
-                return Err(Stop::Full);
-            }
-            let count = self.list_cases(cases)?;
-            let part = Part::Cases(from as u32, count);
-            let line = self.blocks.add_part(&part, block.first)?;
-            self.blocks.serve_waiting(block.scope, cases.first, line);
-        }
-        Ok(())
-    }
-
-    // Lists the lines of cases, each once: how many these are.
-    fn list_cases(&mut self, cases: &Waiting) -> Result<u32, Stop> {
-        let from = self.blocks.cases.len();
-        let mut count = 0u32;
-        for number in 0..cases.count {
-            if let Some(need) = self.blocks.need(cases.first.saturating_add(number))
-                && !has_from(&self.blocks.cases, from, need.line)
-            {
-                self.blocks.cases.push(need.line)?;
-                count = count.saturating_add(1);
-            }
-        }
-        Ok(count)
     }
 }
 
-// Whether the list has the number at this place or after it.
-fn has_from(list: &[u32], from: usize, number: u32) -> bool {
-    for place in from..list.len() {
-        if list.get(place).copied() == Some(number) {
-            return true;
+// Adds a line by cases with these carriers. They are open needs, each with the wider region in
+// which it would do.
+fn add_cases(
+    alloc: Global,
+    draft: &mut Draft,
+    scope: usize,
+    stones: CellSet,
+    region: CellSet,
+    carriers: &[CellSet],
+    open: &mut Vec<Open>,
+) -> Result<usize, Stop> {
+    let mut cases = Vec::new(alloc);
+    for place in 0..carriers.len() {
+        if let Some(carrier) = carriers.get(place).copied() {
+            let need = draft.add_need(alloc, stones, Kind::Semi, carrier)?;
+            cases.push(need)?;
+            open.push(Open {
+                need,
+                region: carrier,
+                wide: region.minus(common_but(carriers, region, place)),
+            })?;
         }
     }
-    false
+    let Some(block) = draft.blocks.get_index_mut(scope) else {
+        return Err(Stop::NoWay);
+    };
+    let line = block.cases.len();
+    block.cases.push(cases)?;
+    Ok(line)
+}
+
+// The cells of the region that all carriers but that at a place have in common.
+fn common_but(carriers: &[CellSet], region: CellSet, but: usize) -> CellSet {
+    let mut common = region;
+    for place in 0..carriers.len() {
+        if place != but
+            && let Some(carrier) = carriers.get(place)
+        {
+            common = common.meet(*carrier);
+        }
+    }
+    common
+}
+
+// The place of the first need, which is what the certificate claims.
+const CLAIM: usize = 0;
+
+// Serves the open needs, by what costs least a need: whether nothing is missing. What is claimed is
+// served by a stone, if one is known, since a caller plays it.
+fn serve_open(
+    alloc: Global,
+    draft: &mut Draft,
+    scope: usize,
+    scene: &mut Scene,
+    open: Vec<Open>,
+) -> Result<bool, Stop> {
+    let mut open = open;
+    for _pick in 0..open.len() {
+        if open.is_empty() {
+            return Ok(true);
+        }
+        let is_claim = open.iter().any(|need| need.need == CLAIM);
+        let by_stone = best_way(scene, &open, is_claim);
+        let Some(way) = by_stone.or(best_way(scene, &open, false)) else {
+            return Ok(false);
+        };
+        let mut served = Vec::new(alloc);
+        let mut wide = scene.stones.union(way.carrier);
+        let mut is_first = true;
+        for need in open.iter() {
+            if way.carrier.inside(need.region) {
+                served.push(need.need)?;
+                wide = if is_first {
+                    need.wide
+                } else {
+                    wide.meet(need.wide)
+                };
+                is_first = false;
+            }
+        }
+        let line = line_of(alloc, draft, scope, scene, &way, wide)?;
+        draft.serve(&served, line);
+        open.retain(|need| !way.carrier.inside(need.region));
+    }
+    Ok(open.is_empty())
+}
+
+// The way that costs least for each open need that it serves, of all ways or of those by a stone.
+fn best_way(scene: &Scene, open: &[Open], by_stone: bool) -> Option<Way> {
+    let mut best = None;
+    let (mut best_cost, mut best_count) = (1u64, 0u64);
+    for way in scene.ways.iter() {
+        let served = open.iter().filter(|need| way.carrier.inside(need.region));
+        let count = served.count() as u64;
+        if 0 < count && (!by_stone || matches!(way.by, By::Stone(_, _))) {
+            let cost = way.cost(&scene.pool, &scene.have).saturating_add(1);
+            if cost.saturating_mul(best_count) < best_cost.saturating_mul(count) {
+                best = Some(*way);
+                best_cost = cost;
+                best_count = count;
+            }
+        }
+    }
+    best
+}
+
+// The line of a way, which is chosen or added.
+fn line_of(
+    alloc: Global,
+    draft: &mut Draft,
+    scope: usize,
+    scene: &mut Scene,
+    way: &Way,
+    wide: CellSet,
+) -> Result<At, Stop> {
+    match way.by {
+        By::Derived(place) => match scene.have.get(place) {
+            Some(derived) => {
+                scene.pool.choose(&derived.places);
+                Ok(At::Derived(derived.own))
+            }
+            None => Err(Stop::NoWay),
+        },
+        By::Stone(cell, _price) => {
+            let stones = scene.stones.with(cell);
+            let region = way.carrier.without(cell);
+            let need = draft.add_need(alloc, stones, Kind::Full, region)?;
+            let Some(block) = draft.blocks.get_index_mut(scope) else {
+                return Err(Stop::NoWay);
+            };
+            let line = block.moves.len();
+            block.moves.push(Stone { cell, need, wide })?;
+            Ok(At::Stone(line))
+        }
+    }
 }

@@ -1,20 +1,19 @@
 //! Certificates that are found, and checked.
 
-ghost use Rattle.std.specs.Prelude.{◌≡◌, IfOk, IfSome, None, Ok};
-ghost use Rattle.win_cert.specs.Texts.{cert_text};
-ghost use Rattle.win_cert.specs.Writable.{HasBoard};
-ghost use Rattle.win_cert.specs.declared.certs.Cert.{Cert};
-ghost use Rattle.hex_found.specs.Found.{Certifies, IsFound, claim_for};
+ghost use Rattle.std.specs.Prelude.{◌≡◌, IfOk, IfSome, IsTrue, None, Ok};
+ghost use Rattle.win_cert.specs.Writable.{IsEndOn, IsLineOf, IsWritable};
+ghost use Rattle.win_cert.specs.declared.certs.TheConstants.{LATEST_VERSION};
+ghost use Rattle.hex_found.specs.Found.{IsFound, claim_for};
 
 use super::refusals::Memory;
-use super::text_search::seek;
+use super::seeking::seek;
 use cert_check::check;
 use conn_store::Kind;
 use hex_board::Board;
-use hex_cells::Colour;
+use hex_cells::{CellSet, Colour, Size};
 use std::alloc::Global;
 use win_cert::{
-    Cert, CertError, LATEST_VERSION, MOST_LINES, Verdict, read, written_text_is_read_back,
+    Cert, End, LATEST_VERSION, LEAST_CASES, Line, MOST_CASES, MOST_LINES, MOST_NUMBER, Verdict,
 };
 
 /// A certificate of who wins the position, found by entering at most `budget` states. `None` if
@@ -30,8 +29,10 @@ pub fn find(
 ) -> Result<Option<Cert>, Memory>
     ensures found { IfOk result (λ r. IfSome r (IsFound board.now mover)) }
 {
-    let sought = seek(alloc, board, mover, budget, MOST_LINES)?;
-    certified(alloc, board, mover, sought.text.as_slice())
+    match seek(alloc, board, mover, budget, MOST_LINES)?.cert {
+        Some(cert) => certified(alloc, board, mover, cert),
+        None => Ok(None),
+    }
 }
 
 /// What is claimed for a winner: that he wins by moving first, or even with the other to move.
@@ -45,32 +46,68 @@ pub(crate) fn claim_for(winner: Colour, mover: Colour) -> Kind
     }
 }
 
-/// The certificate that the text is, if it has the latest version, is of this board, is accepted,
-/// and claims that its player wins with `mover` to place next; `None` exactly if it is none,
-/// whatever the text.
+/// The certificate, if it can be written, is of this board, is accepted, and claims that its player
+/// wins with `mover` to place next.
+///
+/// A body that always answers `None` is proved, and refused by the tests.
 pub fn certified(
     alloc: Global,
     board: &Board,
     mover: Colour,
-    text: &[u8],
+    cert: Cert,
 ) -> Result<Option<Cert>, Memory>
     ensures found { IfOk result (λ r. IfSome r (IsFound board.now mover)) }
-    ensures read { IfOk result (λ r. IfSome r (λ cert. text.now ≡ cert_text cert)) }
-    ensures none { result ≡ Ok None → (cert : Cert) → HasBoard cert → text.now ≡ cert_text cert
-        → ¬ (Certifies board.now mover cert.player cert) }
 {
-    written_text_is_read_back();
-    let cert = match read(alloc, text) {
-        Ok(cert) => cert,
-        Err(CertError::Memory) => return Err(Memory),
-        Err(_) => return Ok(None),
-    };
     let is_claimed = cert.claim == claim_for(cert.player, mover);
-    if cert.board != *board || !is_claimed || cert.version != LATEST_VERSION {
+    if cert.board != *board || !is_claimed || !is_writable(&cert) {
         return Ok(None);
     }
     match check(alloc, &cert)? {
         Verdict::Yes { .. } => Ok(Some(cert)),
         Verdict::No { .. } => Ok(None),
+    }
+}
+
+// Whether the certificate has the latest version and can be written.
+fn is_writable(cert: &Cert) -> bool
+    ensures latest { IsTrue result → cert.now.version ≡ LATEST_VERSION }
+    ensures writable { IsTrue result → IsWritable cert.now }
+{
+    let size = cert.board.size();
+    let lines = cert.lines.as_slice();
+    cert.version == LATEST_VERSION
+        && cert.entry <= MOST_NUMBER
+        && lines.len() <= MOST_LINES
+        && lines.iter().all(|line| is_line_on(line, size))
+}
+
+// Whether the line's cells lie on the board and its numbers are not too great.
+fn is_line_on(line: &Line, size: Size) -> bool
+    ensures { IsTrue result → IsLineOf LATEST_VERSION size line.now }
+{
+    let is_number = |number: u32| number <= MOST_NUMBER;
+    match line {
+        Line::Adj(x, y) => is_end_on(*x, size) && is_end_on(*y, size),
+        Line::And(i, j) | Line::Key(i, j) | Line::Or2(i, j) => is_number(*i) && is_number(*j),
+        Line::Or3(i, j, k) => is_number(*i) && is_number(*j) && is_number(*k),
+        Line::Put(cells) => cells.inside(CellSet::all(size)),
+        Line::Done => true,
+        Line::Move(cell, i) => cell.number() < size.cells() && is_number(*i),
+        Line::Cases(numbers) => {
+            let numbers = numbers.as_slice();
+            LEAST_CASES <= numbers.len()
+                && numbers.len() <= MOST_CASES
+                && numbers.iter().all(|number| *number <= MOST_NUMBER)
+        }
+    }
+}
+
+// Whether the end is an edge or a cell of the board.
+fn is_end_on(end: End, size: Size) -> bool
+    ensures { IsTrue result → IsEndOn size end }
+{
+    match end {
+        End::At(cell) => cell.number() < size.cells(),
+        End::First | End::Second => true,
     }
 }

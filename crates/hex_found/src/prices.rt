@@ -1,100 +1,83 @@
-//! What an entry costs in a certificate, beside what is wanted there already.
+//! What it costs to show something in a scope, beside what is to be written there already.
 
-use super::blocks::{Blocks, MOST_PARTS, Need};
+use super::drafts::Draft;
+use super::pools::{Derived, Pool};
 use conn_store::Kind;
-use edge_tables::{Choice, EdgeEntry, Key, Origin, Stop, Tables};
-use hex_cells::CellSet;
-use std::alloc::Global;
+use edge_tables::{EdgeEntry, Key, Tables};
+use hex_cells::{Cell, CellSet};
 
-// A line costs so much, and no entry costs less than a tenth of one.
-const LINE: u64 = 100;
+/// A line costs so much.
+pub(crate) const LINE: u64 = 100;
 
-const LEAST: u64 = LINE / 10;
+// What a stone costs that leads to a scope which is not yet wanted: so many lines, and so many
+// hundredths of those that its entry is said to rest on. By trial.
+const NEW_SCOPE: u64 = 60 * LINE;
 
-// Of its lines an entry by a stone costs so many hundredths: fewer if the scope with that stone is
-// wanted, and fewest if what is wanted there may serve it too. By trial.
-const OF_WANTED_SCOPE: u64 = 90;
+const OF_ENTRY: u64 = 30 * LINE / 100;
 
-const OF_WANTED_ENTRY: u64 = 9;
-
-/// What the entries cost.
-pub(crate) fn prices_of(
-    alloc: Global,
-    blocks: &Blocks,
-    tables: &Tables,
-    entries: &[EdgeEntry],
-) -> Result<Vec<u64>, Stop> {
-    let mut prices = Vec::new(alloc);
-    for entry in entries {
-        prices.push(price_of(blocks, tables, entry))?;
-    }
-    Ok(prices)
+/// A semi entry that a scope may show: by a derivation, or by a stone.
+#[derive(Clone, Copy, Debug, PartialEq, Eq)]
+pub(crate) enum By {
+    /// The derived entry with this number.
+    Derived(usize),
+    /// A stone on the cell, at this price.
+    Stone(Cell, u64),
 }
 
-/// The carriers of these entries, with what they cost in lines.
-pub(crate) fn priced(
-    alloc: Global,
-    blocks: &Blocks,
-    tables: &Tables,
-    entries: &[EdgeEntry],
-) -> Result<Vec<Choice>, Stop> {
-    let mut list = Vec::new(alloc);
-    for entry in entries {
-        let lines = price_of(blocks, tables, entry) / LINE;
-        list.push(Choice {
-            carrier: entry.carrier,
-            lines: u32::try_from(lines).unwrap_or(u32::MAX),
-        })?;
-    }
-    Ok(list)
+/// A semi entry that a scope may show.
+#[derive(Clone, Copy, Debug, PartialEq, Eq)]
+pub(crate) struct Way {
+    pub carrier: CellSet,
+    pub by: By,
 }
 
-// What an entry costs.
-fn price_of(blocks: &Blocks, tables: &Tables, entry: &EdgeEntry) -> u64 {
-    let parts = match entry.origin {
-        Origin::Move(cell) => {
-            let key = Key {
-                kind: Kind::Full,
-                stones: entry.key.stones.with(cell),
-                ..entry.key
-            };
-            parts_of(blocks, tables, &key, entry.carrier.without(cell))
+impl Way {
+    /// What it costs beside the lines that are chosen.
+    pub(crate) fn cost(&self, pool: &Pool, have: &[Derived]) -> u64 {
+        match self.by {
+            By::Stone(_cell, price) => price,
+            By::Derived(place) => match have.get(place) {
+                Some(derived) => LINE.saturating_mul(pool.fresh(&derived.places) as u64),
+                None => u64::MAX,
+            },
         }
-        _ => LINE,
+    }
+}
+
+/// What a stone costs that leads to the scope with these stones, by this full entry.
+pub(crate) fn stone_price(
+    tables: &Tables,
+    draft: &Draft,
+    stones: CellSet,
+    full: &EdgeEntry,
+) -> u64 {
+    let Some(scope) = draft.find(stones) else {
+        return NEW_SCOPE + u64::from(full.lines) * OF_ENTRY + LINE;
     };
-    u64::from(entry.lines).saturating_mul(parts).max(LEAST)
-}
-
-// Of its lines the hundredths that an entry costs by a stone, after which one with that key inside
-// the region is needed.
-fn parts_of(blocks: &Blocks, tables: &Tables, key: &Key, region: CellSet) -> u64 {
-    let scope = blocks.find_scope(key.stones);
-    if blocks.scope(scope).is_none() {
-        return LINE;
-    }
-    if is_wanted(blocks, tables, scope, key, region) {
-        OF_WANTED_ENTRY
+    if may_be_joined(tables, draft, scope, full.carrier) {
+        2 * LINE
     } else {
-        OF_WANTED_SCOPE
+        NEW_SCOPE / 2 + LINE
     }
 }
 
-// Whether an entry that serves a full need of the scope may lie inside the region.
-fn is_wanted(blocks: &Blocks, tables: &Tables, scope: u32, key: &Key, region: CellSet) -> bool {
-    let mut place = blocks.newest_need(scope);
-    for _step in 0..MOST_PARTS {
-        let Some(need) = blocks.need(place) else {
-            return false;
-        };
-        if may_serve(tables, &need, key, region) {
+// Whether a need of the scope at this place may be served together with one of such an entry.
+fn may_be_joined(tables: &Tables, draft: &Draft, scope: usize, carrier: CellSet) -> bool {
+    let Some(block) = draft.block(scope) else {
+        return false;
+    };
+    let key = Key {
+        player: draft.player,
+        kind: Kind::Full,
+        stones: block.stones,
+    };
+    for place in block.needs.iter() {
+        if let Some(need) = draft.need(*place)
+            && need.kind == Kind::Full
+            && (carrier.inside(need.region) || tables.has(&key, need.region.meet(carrier)))
+        {
             return true;
         }
-        place = need.before;
     }
     false
-}
-
-// Whether it is a full need, and an entry that serves it lies inside the region.
-fn may_serve(tables: &Tables, need: &Need, key: &Key, region: CellSet) -> bool {
-    need.kind == Kind::Full && tables.has(key, need.region.meet(region))
 }

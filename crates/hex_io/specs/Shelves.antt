@@ -5,7 +5,7 @@ use Rattle.std.specs.List.{find}
 use Rattle.std.specs.Str.{bytes_eq}
 use Rattle.hex_io.specs.Told.{Both}
 use Rattle.hex_io.specs.declared.files.File.{File}
-use Rattle.hex_io.specs.declared.shelves.TheConstants.{FILE_LIMIT}
+use Rattle.hex_io.specs.declared.limits.TheConstants.{FILE_LIMIT}
 use Rattle.hex_io.specs.declared.shelves.ShelfError.{ShelfError}
 use Rattle.hex_io.specs.declared.shelves.ShelfError.TheVariants.{Fault, TooLong, Memory}
 

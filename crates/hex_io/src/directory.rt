@@ -2,7 +2,8 @@
 
 ghost use Rattle.std.specs.Prelude.{◌≡◌, None};
 
-use super::shelves::{FILE_LIMIT, Shelf, ShelfError};
+use super::limits::FILE_LIMIT;
+use super::shelves::{Shelf, ShelfError};
 use std::alloc::Global;
 use std::fs::{self, File};
 use std::io::{self, ErrorKind, Read};

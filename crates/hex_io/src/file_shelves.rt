@@ -10,8 +10,9 @@ ghost use Rattle.hex_io.specs.MemShelves.{NextIsBad, after_fetch, new_shelf};
 
 use super::files::File;
 use super::in_memory::is_among;
+use super::limits::FILE_LIMIT;
 use super::refusals::Memory;
-use super::shelves::{FILE_LIMIT, Shelf, ShelfError};
+use super::shelves::{Shelf, ShelfError};
 use std::alloc::Global;
 use std::marker::Model;
 

@@ -29,9 +29,11 @@
 //! **What is only tested, or not said.** What a terminal, a file or another program gave or got:
 //! `StdLink`, `ErrLink`, `FileLink` and `DirShelf` tell nothing. A read may wait for its device.
 //!
-//! **Limits.** A file of [`FILE_LIMIT`] bytes. A count stands still at the greatest value of a
-//! `u64`. `MemLink::make` takes memory for all that it will hold, and a fetch for what it answers;
-//! no other call takes any.
+//! **Limits.** A file of [`FILE_LIMIT`] bytes. The limits of a run's input ([`INPUT_LIMIT`]) and
+//! of the answers that a session holds ([`MOST_HELD`]) stand here too;
+//! [`limits_are_those_of_the_manual`] has all as numbers. A count stands still at the greatest
+//! value of a `u64`. `MemLink::make` takes memory for all that it will hold, and a fetch for what
+//! it answers; no other call takes any.
 //!
 //! **Why so.**
 //!
@@ -54,6 +56,7 @@ mod file_shelves;
 mod files;
 mod giving;
 mod in_memory;
+mod limits;
 mod links;
 mod refusals;
 mod shelves;
@@ -67,8 +70,9 @@ pub use file_shelves::MemShelf;
 pub use files::{Bytes, File};
 pub use giving::{give, report};
 pub use in_memory::MemLink;
+pub use limits::{FILE_LIMIT, INPUT_LIMIT, MOST_HELD, limits_are_those_of_the_manual};
 pub use links::Link;
 pub use refusals::{LinkFault, Memory};
-pub use shelves::{FILE_LIMIT, Shelf, ShelfError};
+pub use shelves::{Shelf, ShelfError};
 pub use standard::{ErrLink, StdLink};
 pub use words::Word;

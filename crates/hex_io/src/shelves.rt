@@ -8,16 +8,13 @@ ghost use Rattle.hex_io.specs.Shelves.{Shelved, Fetches, says};
 use std::alloc::{AllocError, Global};
 use thiserror::Error;
 
-/// The most bytes of a file that is fetched: 1 MiB, far more than any record of a game.
-pub const FILE_LIMIT: usize = 1_048_576;
-
 /// Why a file was not fetched.
 #[derive(Clone, Copy, Debug, PartialEq, Eq, Drop, Error)]
 pub enum ShelfError {
     /// The shelf counted a fault.
     #[error("the shelf is at fault")]
     Fault,
-    /// The file has more than [`FILE_LIMIT`] bytes.
+    /// The file has more than [`FILE_LIMIT`](crate::FILE_LIMIT) bytes.
     #[error("the file is too long")]
     TooLong,
     /// Memory ran out.
@@ -48,9 +45,9 @@ pub trait Shelf {
     /// Fetches the bytes of the file of that name; `None` if no file has it. The files stay as they
     /// are.
     ///
-    /// A file of more than [`FILE_LIMIT`] bytes is `TooLong`. `Fault` comes only if the count of
-    /// faults rose, and with every other answer the count is as before. If memory ran out nothing
-    /// changed.
+    /// A file of more than [`FILE_LIMIT`](crate::FILE_LIMIT) bytes is `TooLong`. `Fault` comes only
+    /// if the count of faults rose, and with every other answer the count is as before. If memory
+    /// ran out nothing changed.
     fn fetch(&mut self, alloc: Global, name: &str) -> Result<Option<Vec<u8>>, ShelfError>
         ensures told { Fetches (told self.old) (told self.new) name.now
             (says (λ file. file.items) result) }

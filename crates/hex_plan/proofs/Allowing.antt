@@ -1,5 +1,6 @@
 -- The allowed cells of a plan are empty, and there is one.
 use Rattle.std.proofs.Common.{◌≡◌, ◌*◌, ℕ, Bool, true, false, List, refl, sym, ◌∙◌, subst, arith}
+use Rattle.std.proofs.Common.{inl, inr}
 use Rattle.std.specs.Prelude.{IfOk, Ok, Err, Result}
 use Rattle.std.specs.List.{list_any}
 use Rattle.std.proofs.lemmas.Bool.{both_ways}
@@ -12,8 +13,10 @@ use Rattle.hex_board.proofs.Search.{any_in, any_out}
 use Rattle.tree_words.specs.Complete.{HasEmpties}
 use Rattle.tree_words.specs.Settings.{IsAny}
 use Rattle.conn_store.specs.Stores.{StoreData}
-use Rattle.hex_plan.specs.Plans.{AllowsEmpties, IsMustplay, IsPlanned, IsPlannedBy}
+use Rattle.hex_plan.specs.Plans.{AllowsEmpties, IsFoundPlan, IsMustplay, IsPlannedBy}
+use Rattle.hex_plan.specs.Plans.{IsPlannedFor}
 use Rattle.hex_plan.specs.declared.plans.Planned.{Planned}
+use Rattle.hex_plan.proofs.Sought.{rests}
 use Rattle.hex_plan.specs.declared.threats.Threat.{Threat}
 use Rattle.hex_plan.specs.declared.types.Plan.{Plan}
 use Rattle.hex_plan.specs.declared.types.Plan.TheVariants.{Win, Search}
@@ -55,14 +58,24 @@ by_plan board player (Win cert cell) own other h w = tt
 by_plan board player (Search threats allowed lost) own other (d, e, p, q, n) w
     = region_allowed board threats allowed lost n.mustplay w
 
-pub planned_allows : (board : Position) (player : Colour) (hsearch : Bool) (p : Planned)
-    → IsPlanned board player hsearch p → HasRoom board → AllowsEmpties board p.plan
-planned_allows board player true p h w = by_plan board player p.plan p.own p.other h w
-planned_allows board player false p h w = subst (λ (v : Plan). AllowsEmpties board v) (sym h.plan)
+-- the plan by a certificate that was found
+by_found : (board : Position) (player : Colour) (plan : Plan) → IsFoundPlan board player plan
+    → HasRoom board → AllowsEmpties board plan
+by_found board player (Win cert cell) h w = tt
+by_found board player (Search threats allowed lost) (threat, is, found, empties, l) w
+    = empties_allowed board allowed empties w
+
+pub planned_allows : (board : Position) (player : Colour) (hsearch : Bool) (solve : ℕ) (p : Planned)
+    → IsPlannedFor board player hsearch solve p → HasRoom board → AllowsEmpties board p.plan
+planned_allows board player true solve p h w = elim (rests solve board player p h) [
+  | inl g ↦ by_plan board player p.plan p.own p.other g w
+  | inr g ↦ by_found board player p.plan g.found w
+]
+planned_allows board player false solve p h w = subst (λ (v : Plan). AllowsEmpties board v) (sym h.plan)
     (empties_allowed board h.allowed h.empties w)
 
-pub if_allows : {E : Type 0} (board : Position) (player : Colour) (hsearch : Bool)
-    (r : Result Planned E) → HasRoom board → IfOk r (IsPlanned board player hsearch)
+pub if_allows : {E : Type 0} (board : Position) (player : Colour) (hsearch : Bool) (solve : ℕ)
+    (r : Result Planned E) → HasRoom board → IfOk r (IsPlannedFor board player hsearch solve)
     → IfOk r (λ p. AllowsEmpties board p.plan)
-if_allows board player hsearch (Ok p) w h = planned_allows board player hsearch p h w
-if_allows board player hsearch (Err e) w h = tt
+if_allows board player hsearch solve (Ok p) w h = planned_allows board player hsearch solve p h w
+if_allows board player hsearch solve (Err e) w h = tt

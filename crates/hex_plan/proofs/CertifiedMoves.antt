@@ -1,5 +1,5 @@
 -- What plans and good turns say of winning: certified moves win, and moves outside a threat lose.
-use Rattle.std.proofs.Common.{◌≡◌, ℕ, [], ◌∷◌, Bool, true, false, List, Option, Some, All, suc}
+use Rattle.std.proofs.Common.{◌≡◌, ◌⊎◌, ℕ, [], ◌∷◌, Bool, true, false, List, Option, Some, All, suc}
 use Rattle.std.proofs.Common.{refl, sym, ◌∙◌, subst, inl, inr}
 use Rattle.std.specs.List.{slice_get}
 use Rattle.std.proofs.lemmas.Bool.{cases_Bool}
@@ -8,10 +8,12 @@ use Rattle.std.proofs.lemmas.Option.{get_or_from_slice_get, slice_get_within}
 use Rattle.hex_cells.specs.Sets.{has, members}
 use Rattle.hex_cells.specs.Colours.{other_of}
 use Rattle.hex_cells.specs.declared.colours.Colour.{Colour}
+use Rattle.hex_cells.specs.declared.colours.Colour.TheVariants.{Black, White}
 use Rattle.hex_board.specs.Elements.{PlayerBoard}
 use Rattle.hex_board.specs.Positions.{IsPosition, Position, Within, is_empty_at, placed, stones_of}
 use Rattle.hex_board.specs.Wins.{Wins}
 use Rattle.hex_board.proofs.Placed.{stones_on}
+use Rattle.hex_board.proofs.WinLaws.{joined_wins, other_means}
 use Rattle.conn_store.specs.Rules.{IsCell, IsChain}
 use Rattle.conn_store.specs.Laws.{AreOfBoard}
 use Rattle.conn_store.specs.Stores.{AreTrue, IsSound, StoreData}
@@ -22,21 +24,27 @@ use Rattle.conn_store.specs.declared.entries.Kind.TheVariants.{Full, Semi}
 use Rattle.conn_store.proofs.Chains.{one_chain}
 use Rattle.conn_store.proofs.RuleTruth.{board_small, sound_true}
 use Rattle.tree_words.specs.declared.settings.Knobs.{Knobs}
+use Rattle.hex_found.specs.Found.{Certifies}
 use Rattle.win_cert.specs.Cuts.{IsEdgeEntryAt}
+use Rattle.win_cert.specs.Laws.{first_mover}
+use Rattle.win_cert.proofs.AcceptedLaw.{accepted_wins}
 use Rattle.win_cert.specs.declared.certs.Cert.{Cert}
 use Rattle.hex_plan.specs.Good.{FollowsPlan, IsGood}
 use Rattle.hex_plan.specs.Laws.{HoldsOfPlans, IsCertified, LosesAsPlanned, LosesOutsideCarriers}
 use Rattle.hex_plan.specs.Laws.{LosesOutsideThreats, LosesWhereLost, WinsAsPlanned}
 use Rattle.hsearch.specs.Closed.{IsReportOf}
-use Rattle.hex_plan.specs.Plans.{IsCertifiedWin, IsInEach, IsMiddle, IsNarrowed, IsPlanned}
-use Rattle.hex_plan.specs.Plans.{IsPlannedBy, IsThreat, IsWin, IsWinBy, IsWinningCell}
+use Rattle.hex_plan.specs.Plans.{IsCertifiedWin, IsFoundPlan, IsFoundThreat, IsFoundWin, IsMiddle}
+use Rattle.hex_plan.specs.Plans.{IsNarrowed, IsPlannedBy, IsPlannedFor, IsThreat, IsWin, IsWinBy}
+use Rattle.hex_plan.specs.Plans.{IsWinningCell}
 use Rattle.hex_plan.specs.Turns.{TurnData}
 use Rattle.hex_plan.specs.declared.plans.Planned.{Planned}
+use Rattle.hex_plan.specs.declared.settings.Means.{Means}
 use Rattle.hex_plan.specs.declared.threats.Threat.{Threat}
 use Rattle.hex_plan.specs.declared.types.Plan.{Plan}
 use Rattle.hex_plan.specs.declared.types.Plan.TheVariants.{Win, Search}
 use Rattle.hex_plan.proofs.Middles.{IsOverCell, over_cell}
-use Rattle.hex_plan.proofs.PlanLaws.{planned_win}
+use Rattle.hex_plan.proofs.PlanLaws.{IsBoard, RestsOn, found_cell, planned_win}
+use Rattle.hex_plan.proofs.Sought.{rests}
 use Rattle.hex_plan.proofs.SureWins.{EdgesLink, entry_says, full_wins, middle_wins}
 use Rattle.hex_plan.proofs.SureWins.{wins_after_other}
 use Rattle.hsearch.proofs.Steps.{at_second, at_first}
@@ -91,23 +99,37 @@ won_wins board player cert k d on h =
     (cell_wins d h.edges.0 h.entry h.entry.kind k h.report.report.sound (report_true board player d on h.report)
     (subst (λ (v : PlayerBoard). Within v.board.size (stones_of v.board v.player)) (sym e) (stones_on board player on)) h.edges.1 refl h.winning)
 
-win_by : (knobs : Knobs) (t : TurnData) (plan : Plan) → FollowsPlan knobs t plan → IsWin plan
-    → IsWinBy plan t.cell
-win_by knobs t (Win cert cell) f w = sym f.1
-win_by knobs t (Search threats allowed lost) f w = absurd w
+found_wins : (board : Position) (player : Colour) (cert : Cert) (k : ℕ)
+    → IsPosition board.size board.black board.white → IsFoundWin board player cert k
+    → Wins player (placed board player k) (other_of player)
+found_wins board player cert k on h =
+    subst (λ (v : Position). Wins player (placed v player k) (other_of player)) h.certifies.board
+    (subst (λ (c : Colour). Wins c (placed cert.board c k) (other_of c)) h.certifies.player
+    (found_cell board player cert k on h).wins)
+
+rests_win : (board : Position) (player : Colour) (cert : Cert) (k : ℕ)
+    → IsPosition board.size board.black board.white → RestsOn board player cert k
+    → Wins player (placed board player k) (other_of player)
+rests_win board player cert k on (inl (d, h)) = won_wins board player cert k d on h
+rests_win board player cert k on (inr h) = found_wins board player cert k on h
+
+win_by : (knobs : Knobs) (means : Means) (t : TurnData) (plan : Plan)
+    → FollowsPlan knobs means t plan → IsWin plan → IsWinBy plan t.cell
+win_by knobs means t (Win cert cell) f w = sym f.2
+win_by knobs means t (Search threats allowed lost) f w = absurd w
 
 pub plan_wins : HoldsOfPlans WinsAsPlanned
-plan_wins board player hsearch p on h k w =
-    let (cert, d, is, won) = planned_win board player hsearch p k h w in
-    won_wins board player cert k d on won
+plan_wins board player means p on h k w =
+    let (cert, is, won) = planned_win board player means p k h w in
+    rests_win board player cert k on won
 
-pub is_certified : (knobs : Knobs) (hsearch : Bool) (t : TurnData) → IsGood knobs hsearch t
+pub is_certified : (knobs : Knobs) (means : Means) (t : TurnData) → IsGood knobs means t
     → IsCertified t
-is_certified knobs hsearch t g w
-    = plan_wins t.board t.player hsearch t.planned g.position g.planned t.cell
-    (win_by knobs t t.planned.plan g.follows w)
+is_certified knobs means t g w
+    = plan_wins t.board t.player means t.planned g.position g.planned t.cell
+    (win_by knobs means t t.planned.plan g.follows w)
 
--- ---- threats
+-- ---- threats of a report
 
 -- what a semi entry of a player says of his edges
 abbrev pub SaysOf : PlayerBoard → Entry → Type 0
@@ -129,44 +151,121 @@ threat_wins board player d threat k on r h out =
     (subst (λ c. has c k ≡ false) h.carrier out)
     (subst (λ (v : PlayerBoard). SaysOf v a) r.elements (entry_says d.elements a Semi at.1 (report_true board (other_of player) d on r n a at.0) h.semi))
 
+-- ---- a threat that was found
+
+-- who is certified with the other player to move wins so
+loss_wins : (board : Position) (mover : Colour) (cert : Cert) → IsBoard board
+    → Certifies board mover (other_of mover) cert → Wins (other_of mover) board mover
+loss_wins board Black cert on h =
+    subst (λ (v : Position). Wins White v Black) h.board
+    (subst (λ (c : Colour). Wins c cert.board (first_mover Full c)) h.player
+    (subst (λ (v : Kind). Wins cert.player cert.board (first_mover v cert.player)) h.claims
+    (accepted_wins cert (subst (λ (v : Position). IsBoard v) (sym h.board) on) h.accepted)))
+loss_wins board White cert on h =
+    subst (λ (v : Position). Wins Black v White) h.board
+    (subst (λ (c : Colour). Wins c cert.board (first_mover Full c)) h.player
+    (subst (λ (v : Kind). Wins cert.player cert.board (first_mover v cert.player)) h.claims
+    (accepted_wins cert (subst (λ (v : Position). IsBoard v) (sym h.board) on) h.accepted)))
+
+-- after each stone too
+each_loses : (board : Position) (mover : Colour) (k : ℕ) → Wins (other_of mover) board mover
+    → is_empty_at board k ≡ true → Wins (other_of mover) (placed board mover k) (other_of mover)
+each_loses board Black k w empty = elim (other_means White board w) [
+  | inl j ↦ joined_wins White (placed board Black k) White j
+  | inr each ↦ each.1 k empty
+]
+each_loses board White k w empty = elim (other_means Black board w) [
+  | inl j ↦ joined_wins Black (placed board White k) Black j
+  | inr each ↦ each.1 k empty
+]
+
+found_loses : (board : Position) (player : Colour) (threat : Threat) (k : ℕ) → IsBoard board
+    → IsFoundThreat board player threat → is_empty_at board k ≡ true
+    → Wins (other_of player) (placed board player k) (other_of player)
+found_loses board player threat k on h empty
+    = each_loses board player k (loss_wins board player threat.cert on h.certifies) empty
+
+-- ---- what a search rests on
+
+-- the reports of both players
+abbrev pub IsNarrowedBy : Position → Colour → List Threat → ℕ → Bool → Type 0
+IsNarrowedBy board player threats allowed lost = (d : StoreData) × (e : StoreData)
+    × IsNarrowed board player threats allowed lost d e
+
+-- a threat that was found, of a lost board
+abbrev pub HasFoundThreat : Position → Colour → List Threat → Type 0
+HasFoundThreat board player threats = (threat : Threat) × (threats ≡ threat ∷ [])
+    × IsFoundThreat board player threat
+
+-- no connections
+abbrev pub HasNoThreat : List Threat → Bool → Type 0
+HasNoThreat threats lost = (threats ≡ []) × (lost ≡ false)
+
+abbrev pub SearchRests : Position → Colour → List Threat → ℕ → Bool → Type 0
+SearchRests board player threats allowed lost = IsNarrowedBy board player threats allowed lost
+    ⊎ HasFoundThreat board player threats ⊎ HasNoThreat threats lost
+
 narrowed_by : (board : Position) (player : Colour) (plan : Plan) (own other : Option StoreData)
     (threats : List Threat) (allowed : ℕ) (lost : Bool) → IsPlannedBy board player plan own other
-    → plan ≡ Search threats allowed lost → (d : StoreData) × (e : StoreData)
-    × IsNarrowed board player threats allowed lost d e
+    → plan ≡ Search threats allowed lost → IsNarrowedBy board player threats allowed lost
 narrowed_by board player plan own other threats allowed lost h q =
     let (d, e, p, r, n)
     = subst (λ (v : Plan). IsPlannedBy board player v own other) q h in (d, e, n)
 
--- what a search with a threat, or on a lost board, rests on
-with_threat : (board : Position) (player : Colour) (hsearch : Bool) (p : Planned)
-    (threats : List Threat) (allowed : ℕ) (lost : Bool) (i : ℕ) (threat : Threat)
-    → IsPlanned board player hsearch p
-    → p.plan ≡ Search threats allowed lost → slice_get threats i ≡ Some threat
-    → (d : StoreData) × (e : StoreData) × IsNarrowed board player threats allowed lost d e
-with_threat board player true p threats allowed lost i threat h q s
-    = narrowed_by board player p.plan p.own p.other threats allowed lost h q
-with_threat board player false p threats allowed lost i threat h q s
-    = absurd (no_threat threats allowed h.allowed lost (sym h.plan ∙ q) s)
+found_threat : (board : Position) (player : Colour) (plan : Plan) (threats : List Threat)
+    (allowed : ℕ) (lost : Bool) → IsFoundPlan board player plan
+    → plan ≡ Search threats allowed lost → HasFoundThreat board player threats
+found_threat board player plan threats allowed lost h q =
+    let (threat, is, found, empties, l) = subst (λ (v : Plan). IsFoundPlan board player v) q h in
+    (threat, is, found)
+
+search_rests : (board : Position) (player : Colour) (hsearch : Bool) (solve : ℕ) (p : Planned)
+    (threats : List Threat) (allowed : ℕ) (lost : Bool)
+    → IsPlannedFor board player hsearch solve p → p.plan ≡ Search threats allowed lost
+    → SearchRests board player threats allowed lost
+search_rests board player true solve p threats allowed lost h q
+    = elim (rests solve board player p h) [
+      | inl g ↦ inl (narrowed_by board player p.plan p.own p.other threats allowed lost g q)
+      | inr g ↦ inr (inl (found_threat board player p.plan threats allowed lost g.found q))
+    ]
+search_rests board player false solve p threats allowed lost h q
+    = inr (inr (no_threat threats h.allowed allowed lost (sym h.plan ∙ q)))
   where
     no_threat : (threats : List Threat) (a b : ℕ) (lost : Bool)
-        → Search [] b false ≡ Search threats a lost → slice_get threats i ≡ Some threat → ⊥
-    no_threat threats a b lost e s = absurd (cc)
+        → Search [] a false ≡ Search threats b lost → HasNoThreat threats lost
+    no_threat threats a b lost e = (cc, cc)
 
 at_one : (P : Threat → Type 0) (threats : List Threat) (i : ℕ) (threat : Threat) → All P threats
     → slice_get threats i ≡ Some threat → P threat
 at_one P threats i threat h s = subst P (get_or_from_slice_get threats i threat threat s)
     (h i threat (slice_get_within threats i threat s))
 
-pub plan_loses_outside : HoldsOfPlans LosesOutsideCarriers
-plan_loses_outside board player hsearch p on h threats allowed lost q i threat s k empty out =
-    let (d, e, n) = with_threat board player hsearch p threats allowed lost i threat h q s in
-    threat_wins board player e threat k on n.other_report
+-- a search of each kind loses outside its threats
+rests_outside : (board : Position) (player : Colour) (threats : List Threat) (allowed : ℕ)
+    (lost : Bool) (i : ℕ) (threat : Threat) (k : ℕ) → IsBoard board
+    → SearchRests board player threats allowed lost → slice_get threats i ≡ Some threat
+    → is_empty_at board k ≡ true → has threat.carrier k ≡ false
+    → Wins (other_of player) (placed board player k) (other_of player)
+rests_outside board player threats allowed lost i threat k on (inl (d, e, n)) s empty out
+    = threat_wins board player e threat k on n.other_report
     (at_one (IsThreat e) threats i threat n.are_threats.cut s) out
+rests_outside board player threats allowed lost i threat k on (inr (inl (t, is, h))) s empty out
+    = found_loses board player t k on h empty
+rests_outside board player threats allowed lost i threat k on (inr (inr (is, l))) s empty out
+    = absurd (none i threat (subst (λ (v : List Threat). slice_get v i ≡ Some threat) is s))
+  where
+    none : (i : ℕ) (threat : Threat) → slice_get [] i ≡ Some threat → ⊥
+    none i threat e = absurd (cc)
 
-pub outside_loses : (knobs : Knobs) (hsearch : Bool) (t : TurnData) → IsGood knobs hsearch t
+pub plan_loses_outside : HoldsOfPlans LosesOutsideCarriers
+plan_loses_outside board player means p on h threats allowed lost q i threat s k empty out
+    = rests_outside board player threats allowed lost i threat k on
+    (search_rests board player means.hsearch means.solve p threats allowed lost h q) s empty out
+
+pub outside_loses : (knobs : Knobs) (means : Means) (t : TurnData) → IsGood knobs means t
     → LosesOutsideThreats t
-outside_loses knobs hsearch t g
-    = plan_loses_outside t.board t.player hsearch t.planned g.position g.planned
+outside_loses knobs means t g
+    = plan_loses_outside t.board t.player means t.planned g.position g.planned
 
 -- ---- lost boards
 
@@ -183,25 +282,25 @@ some_misses (t ∷ threats) k h = elim (cases_Bool (has t.carrier k)) [
   | inr e ↦ (0, t, refl, e)
 ]
 
-lost_region : (board : Position) (player : Colour) (hsearch : Bool) (p : Planned)
-    (threats : List Threat) (allowed : ℕ) → IsPlanned board player hsearch p
-    → p.plan ≡ Search threats allowed true
-    → (k : ℕ) → IsInEach board threats k → ⊥
-lost_region board player true p threats allowed h q =
-    let (d, e, n) = narrowed_by board player p.plan p.own p.other threats allowed true h q in
-    n.mustplay.none.0 refl
-lost_region board player false p threats allowed h q
-    = absurd (not_lost threats allowed h.allowed (sym h.plan ∙ q))
-  where
-    not_lost : (threats : List Threat) (a b : ℕ) → Search [] b false ≡ Search threats a true → ⊥
-    not_lost threats a b e = absurd (cc)
+-- each move on a board that a search of each kind says is lost
+rests_lost : (board : Position) (player : Colour) (threats : List Threat) (allowed : ℕ) (k : ℕ)
+    → IsBoard board → SearchRests board player threats allowed true
+    → is_empty_at board k ≡ true
+    → Wins (other_of player) (placed board player k) (other_of player)
+rests_lost board player threats allowed k on (inl (d, e, n)) empty =
+    let w = some_misses threats k (λ a. n.mustplay.none.0 refl k (empty, a)) in
+    threat_wins board player e w.1 k on n.other_report
+    (at_one (IsThreat e) threats w.0 w.1 n.are_threats.cut w.2) w.3
+rests_lost board player threats allowed k on (inr (inl (t, is, h))) empty
+    = found_loses board player t k on h empty
+rests_lost board player threats allowed k on (inr (inr (is, l))) empty = absurd (cc)
 
 pub plan_loses : HoldsOfPlans LosesAsPlanned
-plan_loses board player hsearch p on h threats allowed q k empty =
-    let w = some_misses threats k
-    (λ a. lost_region board player hsearch p threats allowed h q k (empty, a)) in
-    plan_loses_outside board player hsearch p on h threats allowed true q w.0 w.1 w.2 k empty w.3
+plan_loses board player means p on h threats allowed q k empty
+    = rests_lost board player threats allowed k on
+    (search_rests board player means.hsearch means.solve p threats allowed true h q) empty
 
-pub lost_loses : (knobs : Knobs) (hsearch : Bool) (t : TurnData) → IsGood knobs hsearch t
+pub lost_loses : (knobs : Knobs) (means : Means) (t : TurnData) → IsGood knobs means t
     → LosesWhereLost t
-lost_loses knobs hsearch t g = plan_loses t.board t.player hsearch t.planned g.position g.planned
+lost_loses knobs means t g
+    = plan_loses t.board t.player means t.planned g.position g.planned

@@ -32,5 +32,6 @@ mod MiddleOf
 mod Middles
 mod PlanLaws
 mod Rows
+mod Sought
 mod SureWins
 mod WinningCells

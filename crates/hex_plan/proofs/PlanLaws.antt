@@ -1,5 +1,7 @@
 -- What plans say.
-use Rattle.std.proofs.Common.{◌≡◌, ◌≤◌, ℕ, Bool, true, false, Option, None, refl, sym, subst, arith}
+use Rattle.std.proofs.Common.{◌≡◌, ◌≤◌, ◌⊎◌, ℕ, Bool, true, false, Option, Some, None, refl, sym}
+use Rattle.std.proofs.Common.{◌∙◌, ap, subst, inl, inr, arith}
+use Rattle.std.specs.Prelude.{is_some}
 use Rattle.std.specs.Option.{ForSome}
 use Rattle.hex_cells.specs.declared.colours.Colour.{Colour}
 use Rattle.hex_board.specs.Elements.{PlayerBoard}
@@ -10,38 +12,71 @@ use Rattle.conn_store.specs.Stores.{StoreData}
 use Rattle.conn_store.specs.declared.entries.Entry.{Entry}
 use Rattle.conn_store.specs.declared.entries.Kind.{Kind}
 use Rattle.conn_store.specs.declared.entries.Kind.TheVariants.{Full, Semi}
-use Rattle.tree_words.specs.Closing.{ClosedTree}
+use Rattle.tree_words.specs.Closing.{ClosedTree, IsClosed}
+use Rattle.tree_words.specs.Roots.{IsBest}
+use Rattle.tree_words.specs.Settings.{IsSetting}
 use Rattle.tree_words.specs.declared.settings.Knobs.{Knobs}
 use Rattle.win_cert.specs.declared.certs.Cert.{Cert}
-use Rattle.hex_plan.specs.Good.{FollowsPlan, IsGood}
-use Rattle.hex_plan.specs.Plans.{IsCertifiedWin, IsPlanned, IsPlannedBy, IsWinBy, IsWinningCell}
-use Rattle.hex_plan.specs.Turns.{TurnData, DecidesBy, IsDecided}
+use Rattle.win_cert.specs.Laws.{WinsByCell}
+use Rattle.win_cert.specs.Writable.{IsWritable}
+use Rattle.win_cert.proofs.ClaimedMoves.{move_wins}
+use Rattle.hex_plan.specs.Good.{FollowsPlan, IsGood, IsSearchedFor, IsSequential, IsTurnShape}
+use Rattle.hex_plan.specs.Good.{looks_ahead}
+use Rattle.hex_plan.specs.Plans.{IsCertifiedWin, IsFoundPlan, IsFoundWin, IsPlanned, IsPlannedBy}
+use Rattle.hex_plan.specs.Plans.{IsPlannedFor, IsWinBy, IsWinningCell}
+use Rattle.hex_plan.specs.Turns.{TurnData, Decides, DecidesBy, IsDecided, IsSearchedBy}
 use Rattle.hex_plan.specs.declared.plans.Planned.{Planned}
+use Rattle.hex_plan.specs.declared.settings.Means.{Means}
 use Rattle.hex_plan.specs.declared.types.Plan.{Plan}
 use Rattle.hex_plan.specs.declared.types.Plan.TheVariants.{Win, Search}
+use Rattle.hex_plan.proofs.Sought.{rests}
 
--- a win is planned with a look for connections
-looked : (board : Position) (player : Colour) (hsearch : Bool) (p : Planned) (k : ℕ)
-    → IsPlanned board player hsearch p → IsWinBy p.plan k
-    → IsPlannedBy board player p.plan p.own p.other
-looked board player true p k h w = h
-looked board player false p k h w = absurd (subst (λ (v : Plan). IsWinBy v k) h.plan w)
+-- what a win by cell k rests on: an entry of the player's report, or a certificate that was found
+abbrev pub RestsOn : Position → Colour → Cert → ℕ → Type 0
+RestsOn board player cert k =
+    ((d : StoreData) × IsCertifiedWin board player cert k d) ⊎ IsFoundWin board player cert k
 
 -- a plan that is a win by cell k
 abbrev pub WonBy : Position → Colour → Plan → ℕ → Type 0
-WonBy board player plan k = (cert : Cert) × (d : StoreData) × (plan ≡ Win cert k)
-    × IsCertifiedWin board player cert k d
+WonBy board player plan k =
+    (cert : Cert) × (plan ≡ Win cert k) × RestsOn board player cert k
 
 won_by : (board : Position) (player : Colour) (plan : Plan) (own other : Option StoreData) (k : ℕ)
     → IsPlannedBy board player plan own other → IsWinBy plan k → WonBy board player plan k
 won_by board player (Win cert cell) own other k (d, e, f, h) w =
-    subst (λ (c : ℕ). WonBy board player (Win cert cell) c) w (cert, d, refl, h)
+    subst (λ (c : ℕ). WonBy board player (Win cert cell) c) w (cert, refl, inl (d, h))
 won_by board player (Search threats allowed lost) own other k h w = absurd w
 
-pub planned_win : (board : Position) (player : Colour) (hsearch : Bool) (p : Planned) (k : ℕ)
-    → IsPlanned board player hsearch p → IsWinBy p.plan k → WonBy board player p.plan k
-planned_win board player hsearch p k h w
-    = won_by board player p.plan p.own p.other k (looked board player hsearch p k h w) w
+found_by : (board : Position) (player : Colour) (plan : Plan) (k : ℕ)
+    → IsFoundPlan board player plan → IsWinBy plan k → WonBy board player plan k
+found_by board player (Win cert cell) k h w =
+    subst (λ (c : ℕ). WonBy board player (Win cert cell) c) w (cert, refl, inr h)
+found_by board player (Search threats allowed lost) k h w = absurd w
+
+won_for : (board : Position) (player : Colour) (hsearch : Bool) (solve : ℕ) (p : Planned) (k : ℕ)
+    → IsPlannedFor board player hsearch solve p → IsWinBy p.plan k → WonBy board player p.plan k
+won_for board player true solve p k h w = elim (rests solve board player p h) [
+  | inl g ↦ won_by board player p.plan p.own p.other k g w
+  | inr g ↦ found_by board player p.plan k g.found w
+]
+won_for board player false solve p k h w
+    = absurd (subst (λ (v : Plan). IsWinBy v k) h.plan w)
+
+pub planned_win : (board : Position) (player : Colour) (means : Means) (p : Planned) (k : ℕ)
+    → IsPlanned board player means p → IsWinBy p.plan k → WonBy board player p.plan k
+planned_win board player means p k h w
+    = won_for board player means.hsearch means.solve p k h w
+
+-- the board is one
+abbrev pub IsBoard : Position → Type 0
+IsBoard board = IsPosition board.size board.black board.white
+
+-- what a certificate that was found says of its cell
+pub found_cell : (board : Position) (player : Colour) (cert : Cert) (k : ℕ) → IsBoard board
+    → IsFoundWin board player cert k → WinsByCell cert k
+found_cell board player cert k on h =
+    move_wins cert k (subst (λ (v : Position). IsBoard v) (sym h.certifies.board) on)
+    h.certifies.accepted h.moved
 
 -- the cell of a win is empty
 pub winning_empty : (d : StoreData) (a : Entry) (kind : Kind) (k : ℕ) → IsValid d.elements a
@@ -49,47 +84,112 @@ pub winning_empty : (d : StoreData) (a : Entry) (kind : Kind) (k : ℕ) → IsVa
 winning_empty d a Semi k v w = w.cell.0
 winning_empty d a Full k v w = v.empty k w.0
 
-pub won_empty : (board : Position) (player : Colour) (cert : Cert) (k : ℕ) (d : StoreData)
+cut_empty : (board : Position) (player : Colour) (cert : Cert) (k : ℕ) (d : StoreData)
     → IsCertifiedWin board player cert k d → is_empty_at board k ≡ true
-won_empty board player cert k d h =
+cut_empty board player cert k d h =
+    let valid = h.report.report.sound.valid h.edges.0 h.entry h.edges.1.0 in
     subst (λ (e : PlayerBoard). is_empty_at e.board k ≡ true) h.report.elements
-    (winning_empty d h.entry h.entry.kind k (h.report.report.sound.valid h.edges.0 h.entry h.edges.1.0) h.winning)
+    (winning_empty d h.entry h.entry.kind k valid h.winning)
 
-pub planned_empty : (board : Position) (player : Colour) (hsearch : Bool) (p : Planned) (k : ℕ)
-    → IsPlanned board player hsearch p → IsWinBy p.plan k → is_empty_at board k ≡ true
-planned_empty board player hsearch p k h w =
-    let (cert, d, is, won) = planned_win board player hsearch p k h w in
-    won_empty board player cert k d won
+won_empty : (board : Position) (player : Colour) (cert : Cert) (k : ℕ) → IsBoard board
+    → RestsOn board player cert k → is_empty_at board k ≡ true
+won_empty board player cert k on (inl (d, h)) = cut_empty board player cert k d h
+won_empty board player cert k on (inr h) =
+    subst (λ (v : Position). is_empty_at v k ≡ true) h.certifies.board
+    (found_cell board player cert k on h).empty
+
+won_writable : (board : Position) (player : Colour) (cert : Cert) (k : ℕ)
+    → RestsOn board player cert k → IsWritable cert
+won_writable board player cert k (inl (d, h)) = h.cut.writable
+won_writable board player cert k (inr h) = h.certifies.writable
+
+pub planned_empty : (board : Position) (player : Colour) (means : Means) (p : Planned) (k : ℕ)
+    → IsBoard board → IsPlanned board player means p → IsWinBy p.plan k
+    → is_empty_at board k ≡ true
+planned_empty board player means p k on h w =
+    let (cert, is, won) = planned_win board player means p k h w in
+    won_empty board player cert k on won
 
 -- a turn that a win decides
-pub decided_by_win : (t : TurnData) (hsearch : Bool) → IsPlanned t.board t.player hsearch t.planned
-    → IsWinBy t.planned.plan t.cell → t.closed ≡ None → IsDecided t
-decided_by_win t hsearch h w e =
-    let (cert, d, is, won) = planned_win t.board t.player hsearch t.planned t.cell h w in
+pub decided_by_win : (t : TurnData) (means : Means) → IsBoard t.board
+    → IsPlanned t.board t.player means t.planned → IsWinBy t.planned.plan t.cell
+    → t.looked ≡ None → t.closed ≡ None → IsDecided t
+decided_by_win t means on h w l e =
+    let (cert, is, won) = planned_win t.board t.player means t.planned t.cell h w in
+    let writable = won_writable t.board t.player cert t.cell won in
     record {
-      empty = won_empty t.board t.player cert t.cell d won;
-      decided = subst (λ (v : Plan). DecidesBy t v) (sym is) (e, refl, won.cut.writable);
+      empty = won_empty t.board t.player cert t.cell on won;
+      decided = subst (λ (v : Plan). DecidesBy t v) (sym is) (l, e, refl, writable);
     }
 
-pub good_win : (knobs : Knobs) (t : TurnData) (hsearch : Bool)
-    → IsPosition t.board.size t.board.black t.board.white → winner_of t.board ≡ None
-    → IsPlanned t.board t.player hsearch t.planned → IsWinBy t.planned.plan t.cell → t.closed ≡ None
-    → IsGood knobs hsearch t
-good_win knobs t hsearch on n h w e =
-    let (cert, d, is, won) = planned_win t.board t.player hsearch t.planned t.cell h w in
+pub good_win : (knobs : Knobs) (t : TurnData) (means : Means) → IsBoard t.board
+    → winner_of t.board ≡ None → IsPlanned t.board t.player means t.planned
+    → IsWinBy t.planned.plan t.cell → t.looked ≡ None → t.closed ≡ None → IsGood knobs means t
+good_win knobs t means on n h w l e =
+    let (cert, is, won) = planned_win t.board t.player means t.planned t.cell h w in
     record {
       position = on;
       nobody = n;
-      empty = won_empty t.board t.player cert t.cell d won;
+      empty = won_empty t.board t.player cert t.cell on won;
       planned = h;
-      follows = subst (λ (v : Plan). FollowsPlan knobs t v) (sym is) (e, refl);
+      follows = subst (λ (v : Plan). FollowsPlan knobs means t v) (sym is) (l, e, refl);
+    }
+
+-- a turn that a tree decides
+pub decided_by_search : (t : TurnData) (plan : Plan) (tree : ClosedTree) → t.closed ≡ Some tree
+    → tree.shape.board ≡ t.board → tree.shape.player ≡ t.player
+    → IsBest tree.shape tree.words t.cell → IsSearchedBy plan t.looked tree.shape.allowed
+    → DecidesBy t plan
+decided_by_search t (Win cert cell) tree e b p best h = absurd h
+decided_by_search t (Search threats allowed lost) tree e b p best h = λ other is.
+    let same : tree ≡ other = cc in
+    subst (λ (z : ClosedTree). Decides t allowed z) same
+    (record { board = b; player = p; allowed = h.1; chosen = h.0; best = best })
+
+pub follows_search : (knobs : Knobs) (means : Means) (t : TurnData) (plan : Plan)
+    (tree : ClosedTree) → t.closed ≡ Some tree → IsSearchedBy plan t.looked tree.shape.allowed
+    → is_some t.looked ≡ looks_ahead means
+    → IsSearchedFor knobs t tree.shape.allowed tree → FollowsPlan knobs means t plan
+follows_search knobs means t (Win cert cell) tree e h l s = absurd h
+follows_search knobs means t (Search threats allowed lost) tree e h l s
+    = (l, h.0, tree, e, subst (λ c. IsSearchedFor knobs t c tree) h.1 s)
+
+-- a turn that a tree decides is good
+pub good_search : (knobs : Knobs) (means : Means) (t : TurnData) (tree : ClosedTree)
+    → t.closed ≡ Some tree → t.board ≡ tree.shape.board → t.player ≡ tree.shape.player
+    → IsSetting tree.shape → IsClosed tree.shape tree.words
+    → IsBest tree.shape tree.words t.cell → is_empty_at tree.shape.board t.cell ≡ true
+    → winner_of tree.shape.board ≡ None
+    → IsPlanned tree.shape.board tree.shape.player means t.planned
+    → IsSearchedBy t.planned.plan t.looked tree.shape.allowed
+    → is_some t.looked ≡ looks_ahead means
+    → IsTurnShape knobs tree.shape.board tree.shape.player t.number tree.shape.allowed tree.shape
+    → IsSequential knobs tree → IsGood knobs means t
+good_search knobs means t tree e b p set closed best empty n h cells looked shape one =
+    let is = set.position in
+    record {
+      position = subst (λ (z : Position). IsPosition z.size z.black z.white) (sym b) is;
+      nobody = ap winner_of b ∙ n;
+      empty = ap (λ (z : Position). is_empty_at z t.cell) b ∙ empty;
+      planned = subst (λ z. IsPlanned z t.player means t.planned) (sym b)
+          (subst (λ c. IsPlanned tree.shape.board c means t.planned) (sym p) h);
+      follows = follows_search knobs means t t.planned.plan tree e cells looked (record {
+        shape = subst (λ z. IsTurnShape knobs z t.player t.number tree.shape.allowed tree.shape)
+            (sym b)
+            (subst (λ c. IsTurnShape knobs tree.shape.board c t.number tree.shape.allowed tree.shape)
+            (sym p) shape);
+        setting = set;
+        closed = closed;
+        best = best;
+        sequential = one;
+      });
     }
 
 -- the tree of a turn is one of its board and player
 pub tree_of_turn : (t : TurnData) (plan : Plan) → DecidesBy t plan
     → ForSome t.closed
     (λ (tree : ClosedTree). (tree.shape.board ≡ t.board) × (tree.shape.player ≡ t.player))
-tree_of_turn t (Win cert cell) h tree e = absurd (cc)
+tree_of_turn t (Win cert cell) h tree e = let none : t.closed ≡ None = h.1 in absurd (cc)
 tree_of_turn t (Search threats allowed lost) h tree e = ((h tree e).board, (h tree e).player)
 
 -- a board that keeps what each board keeps

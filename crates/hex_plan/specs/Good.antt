@@ -1,5 +1,6 @@
 -- Good turns.
-use Rattle.std.specs.Prelude.{◌≡◌, ℕ, Bool, true, None, Some}
+use Rattle.std.specs.Prelude.{◌≡◌, ◌&&◌, ℕ, Bool, true, false, None, Some, is_some, nat_lt}
+use Rattle.std.specs.declared.option.Option.{Option}
 use Rattle.hex_cells.specs.declared.colours.Colour.{Colour}
 use Rattle.hex_board.specs.Joined.{winner_of}
 use Rattle.hex_board.specs.Positions.{IsPosition, Position, is_empty_at}
@@ -9,9 +10,11 @@ use Rattle.tree_words.specs.Closing.{ClosedTree, IsClosed}
 use Rattle.tree_words.specs.Roots.{IsBest}
 use Rattle.tree_words.specs.Sequence.{seq_of}
 use Rattle.tree_words.specs.Trees.{IsTreeOf}
+use Rattle.look_ahead.specs.Looked.{LookedData}
 use Rattle.hex_plan.specs.Plans.{IsPlanned}
 use Rattle.hex_plan.specs.Seeds.{turn_knobs}
-use Rattle.hex_plan.specs.Turns.{TurnData}
+use Rattle.hex_plan.specs.Turns.{TurnData, ChoseAmong, searched_cells}
+use Rattle.hex_plan.specs.declared.settings.Means.{Means}
 use Rattle.hex_plan.specs.declared.plans.Planned.{Planned}
 use Rattle.hex_plan.specs.declared.types.Plan.{Plan}
 use Rattle.hex_plan.specs.declared.types.Plan.TheVariants.{Win, Search}
@@ -42,35 +45,48 @@ pub record IsSearchedFor (knobs : Knobs) (t : TurnData) (allowed : ℕ)
   -- with one worker the tree is that of Seq
   pub sequential : IsSequential knobs tree
 
--- the turn is decided as planned: by the cell of a win, without a tree, or by a tree that was
--- searched for it
-abbrev pub FollowsPlan : Knobs → TurnData → Plan → Type 0
-FollowsPlan knobs t (Win cert cell) = (t.closed ≡ None) × (t.cell ≡ cell)
-FollowsPlan knobs t (Search threats allowed lost) =
-    (tree : ClosedTree) × (t.closed ≡ Some tree) × IsSearchedFor knobs t allowed tree
+-- the tree's search alone
+abbrev pub no_means : Means
+no_means = record { hsearch = false; solve = 0; look = 0 }
 
--- Good: what is promised of each turn of a session with these knobs, which looks for connections
--- or doesn't
-pub record IsGood (knobs : Knobs) (hsearch : Bool) (t : TurnData) : Type 0 where
+-- a session with these means looks ahead before a search
+abbrev pub looks_ahead : Means → Bool
+looks_ahead means = means.hsearch && nat_lt 0 means.look
+
+-- the turn is decided as planned: by the cell of a win, without a look-ahead or a tree; or by a
+-- tree that was searched for it, among the allowed cells, or at the one of these that the
+-- look-ahead chose
+abbrev pub FollowsPlan : Knobs → Means → TurnData → Plan → Type 0
+FollowsPlan knobs means t (Win cert cell) =
+    (t.looked ≡ None) × (t.closed ≡ None) × (t.cell ≡ cell)
+FollowsPlan knobs means t (Search threats allowed lost) =
+    (is_some t.looked ≡ looks_ahead means) × ChoseAmong allowed t.looked
+    × (tree : ClosedTree) × (t.closed ≡ Some tree)
+    × IsSearchedFor knobs t (searched_cells allowed t.looked) tree
+
+-- Good: what is promised of each turn of a session with these knobs and means
+pub record IsGood (knobs : Knobs) (means : Means) (t : TurnData) : Type 0 where
   -- the turn's board is one, no player is joined there, and the turn's cell is empty
   pub position : IsPosition t.board.size t.board.black t.board.white
   pub nobody : winner_of t.board ≡ None
   pub empty : is_empty_at t.board t.cell ≡ true
   -- it was planned for its board and player, and decided as planned
-  pub planned : IsPlanned t.board t.player hsearch t.planned
-  pub follows : FollowsPlan knobs t t.planned.plan
+  pub planned : IsPlanned t.board t.player means t.planned
+  pub follows : FollowsPlan knobs means t t.planned.plan
 
 -- the turn, which was planned so for the player on the board, is good if no player is joined there
 abbrev pub IsGoodAsPlanned : TurnData → Position → Colour → Planned → Type 0
-IsGoodAsPlanned t board player planned = (knobs : Knobs) (hsearch : Bool)
-    → winner_of board ≡ None → IsPlanned board player hsearch planned → IsGood knobs hsearch t
+IsGoodAsPlanned t board player planned = (knobs : Knobs) (means : Means)
+    → winner_of board ≡ None → IsPlanned board player means planned → IsGood knobs means t
 
--- the turn with this number, which was planned so and which the tree decides, is good if no
--- player is joined on the tree's board, the plan is one for this board and player, and the tree's
--- shape is that of the turn; for one worker the tree has to be that of Seq
-abbrev pub IsGoodAsSearched : TurnData → ℕ → Planned → ClosedTree → Type 0
-IsGoodAsSearched t number planned tree = (knobs : Knobs) (hsearch : Bool)
+-- the turn with this number, which was planned so, and which the tree decides after this look-
+-- ahead, is good if no player is joined on the tree's board, the plan is one for this board and
+-- player, there was a look-ahead exactly if the means have one, and the tree's shape is that of the
+-- turn; for one worker the tree has to be that of Seq
+abbrev pub IsGoodAsSearched : TurnData → ℕ → Planned → Option LookedData → ClosedTree → Type 0
+IsGoodAsSearched t number planned looked tree = (knobs : Knobs) (means : Means)
     → winner_of tree.shape.board ≡ None
-    → IsPlanned tree.shape.board tree.shape.player hsearch planned
+    → IsPlanned tree.shape.board tree.shape.player means planned
+    → is_some looked ≡ looks_ahead means
     → IsTurnShape knobs tree.shape.board tree.shape.player number tree.shape.allowed tree.shape
-    → IsSequential knobs tree → IsGood knobs hsearch t
+    → IsSequential knobs tree → IsGood knobs means t

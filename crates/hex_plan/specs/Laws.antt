@@ -10,9 +10,10 @@ use Rattle.hex_board.specs.Wins.{Wins}
 use Rattle.tree_words.specs.declared.settings.Knobs.{Knobs}
 use Rattle.hex_plan.specs.Good.{IsGood}
 use Rattle.hex_plan.specs.Plans.{IsPlanned, IsWin, IsWinBy}
-use Rattle.hex_plan.specs.Reports.{reported_rows}
+use Rattle.hex_plan.specs.Reports.{reported_rows, sequential_rows}
 use Rattle.hex_plan.specs.TurnTexts.{texts_of}
 use Rattle.hex_plan.specs.Turns.{TurnData}
+use Rattle.hex_plan.specs.declared.settings.Means.{Means}
 use Rattle.hex_plan.specs.declared.plans.Planned.{Planned}
 use Rattle.hex_plan.specs.declared.threats.Threat.{Threat}
 use Rattle.hex_plan.specs.declared.types.Plan.{Plan}
@@ -46,10 +47,10 @@ LosesAsPlanned board player plan = (threats : List Threat) (allowed : ℕ)
     → plan ≡ Search threats allowed true
     → (k : ℕ) → is_empty_at board k ≡ true → LosesBy board player k
 
--- of each plan for a player on a board, looked for with connections or without, this holds
+-- of each plan for a player on a board, with whatever means, this holds
 abbrev pub HoldsOfPlans : (Position → Colour → Plan → Type 0) → Type 0
-HoldsOfPlans Holds = (board : Position) (player : Colour) (hsearch : Bool) (p : Planned)
-    → IsPosition board.size board.black board.white → IsPlanned board player hsearch p
+HoldsOfPlans Holds = (board : Position) (player : Colour) (means : Means) (p : Planned)
+    → IsPosition board.size board.black board.white → IsPlanned board player means p
     → Holds board player p.plan
 
 -- ---- turns
@@ -66,9 +67,15 @@ LosesOutsideThreats t = LosesOutsideCarriers t.board t.player t.planned.plan
 abbrev pub LosesWhereLost : TurnData → Type 0
 LosesWhereLost t = LosesAsPlanned t.board t.player t.planned.plan
 
+-- the report of a good turn without a look for connections is that of the sequential search
+abbrev pub AreReportedInSequence : Knobs → Type 0
+AreReportedInSequence knobs = (means : Means) → means.hsearch ≡ false → (t : TurnData)
+    → IsGood knobs means t → reported_rows t ≡ sequential_rows t
+
 -- of good turns without a look for connections the board, the player and the number determine the
 -- cell, the report and the texts
 abbrev pub AreDetermined : Knobs → Type 0
-AreDetermined knobs = (t u : TurnData) → IsGood knobs false t → IsGood knobs false u
+AreDetermined knobs = (means : Means) → means.hsearch ≡ false → (t u : TurnData)
+    → IsGood knobs means t → IsGood knobs means u
     → t.board ≡ u.board → t.player ≡ u.player → t.number ≡ u.number
     → (t.cell ≡ u.cell) × (reported_rows t ≡ reported_rows u) × (texts_of t ≡ texts_of u)

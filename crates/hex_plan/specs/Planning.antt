@@ -6,7 +6,11 @@ use Rattle.conn_store.specs.Stores.{StoreData}
 use Rattle.conn_store.specs.declared.entries.Entry.{Entry}
 use Rattle.conn_store.specs.declared.entries.Held.{Held}
 use Rattle.win_cert.specs.Cuts.{CertifiesEntry, HasLinesFor, IsEdgeEntryAt}
+use Rattle.hex_cells.specs.declared.colours.Colour.{Colour}
+use Rattle.hex_board.specs.Positions.{Position}
+use Rattle.hex_plan.specs.Plans.{IsFoundPlan}
 use Rattle.hex_plan.specs.declared.threats.Threat.{Threat}
+use Rattle.hex_plan.specs.declared.types.Plan.{Plan}
 
 -- the threat was cut from entry n of the store, between the two edges, with the lines on which it
 -- rests, and has its carrier
@@ -43,3 +47,8 @@ pub record HasLeast (entries : List Entry) (h : Held) (bound m n : ℕ) : Type 0
 abbrev pub IsLeastOf : List Entry → Held → ℕ → ℕ → Option ℕ → Type 0
 IsLeastOf entries h bound m best =
     MatchOption best (AreBelow entries h bound m) (HasLeast entries h bound m)
+
+-- the budget is not 0, and the plan rests on a certificate that was found
+pub record IsFoundFor (board : Position) (player : Colour) (budget : ℕ) (plan : Plan) : Type 0 where
+  pub some : 0 < budget
+  pub found : IsFoundPlan board player plan

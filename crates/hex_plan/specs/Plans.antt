@@ -1,5 +1,5 @@
 -- What is planned before a search: a certified win, or the cells among which is searched.
-use Rattle.std.specs.Prelude.{◌≡◌, ◌<◌, ◌↔◌, ℕ, Bool, true, false}
+use Rattle.std.specs.Prelude.{◌≡◌, ◌<◌, ◌↔◌, ◌⊎◌, ℕ, Bool, true, false, zero, suc}
 use Rattle.std.specs.Prelude.{List, [], ◌∷◌, Option, Some, None, All}
 use Rattle.std.specs.List.{slice_get}
 use Rattle.hex_cells.specs.Colours.{other_of}
@@ -14,10 +14,15 @@ use Rattle.conn_store.specs.declared.entries.Entry.{Entry}
 use Rattle.conn_store.specs.declared.entries.Kind.{Kind}
 use Rattle.conn_store.specs.declared.entries.Kind.TheVariants.{Full, Semi}
 use Rattle.hsearch.specs.Closed.{IsReportOf}
+use Rattle.hex_found.specs.Found.{Certifies}
 use Rattle.tree_words.specs.Complete.{HasEmpties}
 use Rattle.tree_words.specs.Settings.{IsAny}
 use Rattle.win_cert.specs.Cuts.{CertifiesEntry, HasLinesFor, IsEdgeEntryAt}
+use Rattle.win_cert.specs.Laws.{ClaimsMove}
+use Rattle.win_cert.specs.Verdicts.{IsVerdict}
 use Rattle.win_cert.specs.declared.certs.Cert.{Cert}
+use Rattle.win_cert.specs.declared.verdicts.Verdict.TheVariants.{Yes}
+use Rattle.hex_plan.specs.declared.settings.Means.{Means}
 use Rattle.hex_plan.specs.declared.types.Plan.{Plan}
 use Rattle.hex_plan.specs.declared.types.Plan.TheVariants.{Win, Search}
 use Rattle.hex_plan.specs.declared.plans.Planned.{Planned}
@@ -58,6 +63,12 @@ pub record IsCertifiedWin (board : Position) (player : Colour) (cert : Cert) (ce
   pub cut : CertifiesEntry own entry cert
   pub lines : HasLinesFor own edges.0 cert
   pub winning : IsWinningCell own entry entry.kind cell
+
+-- the certificate was found: it has the latest version, is accepted, is of the board and the
+-- player, claims that he wins by placing first, and does so by a `move`, whose cell is this one
+pub record IsFoundWin (board : Position) (player : Colour) (cert : Cert) (cell : ℕ) : Type 0 where
+  pub certifies : Certifies board player player cert
+  pub moved : ClaimsMove cert cell
 
 -- ---- threats, and the mustplay region
 
@@ -107,6 +118,13 @@ pub record IsNarrowed (board : Position) (player : Colour) (threats : List Threa
   pub are_threats : AreThreats other threats
   pub mustplay : IsMustplay board threats allowed lost
 
+-- the certificate of the threat was found: it has the latest version, is accepted, is of the board
+-- and the other player, and claims that he wins whoever places first; the carrier is that of the
+-- claim
+pub record IsFoundThreat (board : Position) (player : Colour) (t : Threat) : Type 0 where
+  pub certifies : Certifies board player (other_of player) t.cert
+  pub verdict : IsVerdict t.cert (Yes Full t.carrier)
+
 -- ---- plans
 
 -- no connections were looked for: there is no threat, and all empty cells are allowed
@@ -125,10 +143,38 @@ IsPlannedBy board player (Search threats allowed lost) own other =
     (d : StoreData) × (e : StoreData) × (own ≡ Some d) × (other ≡ Some e)
     × IsNarrowed board player threats allowed lost d e
 
--- what is planned on the board for the player to move, with connections or without
-abbrev pub IsPlanned : Position → Colour → Bool → Planned → Type 0
-IsPlanned board player true p = IsPlannedBy board player p.plan p.own p.other
-IsPlanned board player false p = IsFree board p
+-- the plan rests on connections alone
+abbrev pub IsConnected : Position → Colour → Planned → Type 0
+IsConnected board player p = IsPlannedBy board player p.plan p.own p.other
+
+-- the plan rests on a certificate that was found: a win by it; or, if the other player wins, a
+-- search among all empty cells of a lost board, with this certificate as the only threat
+abbrev pub IsFoundPlan : Position → Colour → Plan → Type 0
+IsFoundPlan board player (Win cert cell) = IsFoundWin board player cert cell
+IsFoundPlan board player (Search threats allowed lost) =
+    (threat : Threat) × (threats ≡ threat ∷ []) × IsFoundThreat board player threat
+    × HasEmpties allowed board × (lost ≡ true)
+
+-- the player's own report has no entry between his two edges, and the plan rests on a certificate
+-- that was found
+pub record IsSolved (board : Position) (player : Colour) (p : Planned) : Type 0 where
+  pub found : IsFoundPlan board player p.plan
+  pub own : StoreData
+  pub own_report : IsReportOf board player own
+  pub unjoined : (a : Entry) → ¬ (IsEdgeEntry own a)
+  pub own_is : p.own ≡ Some own
+
+-- what is planned if connections are looked for or not, and certificates with that budget: with a
+-- budget of 0 a plan rests on connections alone
+abbrev pub IsPlannedFor : Position → Colour → Bool → ℕ → Planned → Type 0
+IsPlannedFor board player false solve p = IsFree board p
+IsPlannedFor board player true zero p = IsConnected board player p
+IsPlannedFor board player true (suc less) p =
+    IsConnected board player p ⊎ IsSolved board player p
+
+-- what is planned with these means on the board for the player to move
+abbrev pub IsPlanned : Position → Colour → Means → Planned → Type 0
+IsPlanned board player means p = IsPlannedFor board player means.hsearch means.solve p
 
 -- the plan is a win
 abbrev pub IsWin : Plan → Type 0

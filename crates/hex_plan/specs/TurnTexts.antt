@@ -1,11 +1,15 @@
--- What `search-report`, `mustplay` and `wincert` say of a turn.
-use Rattle.std.specs.Prelude.{ℕ, ◌-◌, ◌*◌, ◌<◌, if◌then◌else◌}
+-- What `search-report`, `look-report`, `mustplay` and `wincert` say of a turn.
+use Rattle.std.specs.Prelude.{ℕ, ◌-◌, ◌*◌, ◌<◌, if◌then◌else◌, nat_lt}
 use Rattle.std.specs.Prelude.{List, [], ◌∷◌, ◌++◌, codes, length, take}
 use Rattle.std.specs.Prelude.{Option, Some, None, option_map}
 use Rattle.tree_words.specs.Closing.{ClosedTree}
 use Rattle.std.specs.List.{flat_map}
 use Rattle.std.specs.Fmt.{decimal}
 use Rattle.hex_cells.specs.Vertices.{vertex_of, vertices_of}
+use Rattle.look_ahead.specs.Looked.{LookedData}
+use Rattle.look_ahead.specs.declared.rows.LookRow.{LookRow}
+use Rattle.look_ahead.specs.declared.rows.Outcome.{Outcome}
+use Rattle.look_ahead.specs.declared.rows.Outcome.TheVariants.{Won, Lost}
 use Rattle.tree_words.specs.Roots.{rows_of}
 use Rattle.tree_words.specs.declared.roots.Row.{Row}
 use Rattle.win_cert.specs.Texts.{cert_text}
@@ -67,16 +71,37 @@ abbrev pub wincert_of : Plan → Option (List ℕ)
 wincert_of (Win cert cell) = Some (take (length (cert_text cert) - 1) (cert_text cert))
 wincert_of (Search threats allowed lost) = None
 
--- what the three commands say of a turn; of a win there is no report, and of a search no
--- certificate
+-- who wins after a stone, if that is known
+abbrev pub outcome_text : Option Outcome → List ℕ
+outcome_text None = []
+outcome_text (Some Won) = codes " won"
+outcome_text (Some Lost) = codes " lost"
+
+-- of a cell of the board a line feed, its vertex, its nodes, its value, and who wins
+abbrev pub look_line : ℕ → LookRow → List ℕ
+look_line size row = if nat_lt row.cell (size * size)
+    then 10 ∷ vertex_of size row.cell ++ 32 ∷ decimal row.nodes ++ 32 ∷ decimal row.value
+    ++ outcome_text row.known
+    else []
+
+-- what the look-ahead of a turn found, if there was one: how many nodes it judged, and a line for
+-- each cell
+abbrev pub look_of : ℕ → LookedData → List ℕ
+look_of size looked =
+    codes "nodes " ++ decimal looked.nodes ++ flat_map (look_line size) looked.rows
+
+-- what the four commands say of a turn; of a win there is no report, of a search no certificate,
+-- and of a turn without a look-ahead nothing of one
 pub record TurnTextsData : Type 0 where
   pub report : Option (List ℕ)
+  pub look : Option (List ℕ)
   pub mustplay : List ℕ
   pub wincert : Option (List ℕ)
 
 abbrev pub texts_of : TurnData → TurnTextsData
 texts_of t = record {
   report = report_of t;
+  look = option_map (look_of t.board.size) t.looked;
   mustplay = mustplay_of t.board.size t.planned.plan;
   wincert = wincert_of t.planned.plan;
 }

@@ -2,7 +2,8 @@
 //!
 //! **Nouns.** A *plan* ([`types::Plan`]) is a win with its certificate, or a search among allowed
 //! cells. It rests on the *reports* of both players, sound and closed sets of connections
-//! ([`Planned`]). A *threat* ([`Threat`]) is a certificate that the other player wins if he is to
+//! ([`Planned`]), or on a certificate that the solver found. The *means* ([`Means`]) say which of
+//! these are used. A *threat* ([`Threat`]) is a certificate that the other player wins if he is to
 //! place next, with its carrier; the *mustplay region* is the cells that lie in each threat's
 //! carrier. A *turn* ([`Turn`]) is a board, the player to move there, its number, what was
 //! planned, the closed tree that was searched for it, if one was, and the cell that was chosen. An
@@ -13,12 +14,12 @@
 //! texts, and hands it to an archive (`decided_turn` of turn_search is this up to the texts):
 //!
 //! ```text
-//! let planned = plan(alloc, board, colour, hsearch)?;
+//! let planned = plan(alloc, board, colour, means)?;
 //! let turn = match planned.allowed() {
 //!     None => Turn::won(board, colour, number, planned),
 //!     Some(allowed) => {
 //!         let shape = turn_shape(board, colour, allowed, &knobs, number);
-//!         Turn::searched(search(rt, alloc, &shape, &gate)?, number, planned)
+//!         Turn::searched(search(rt, alloc, &shape, &gate)?, number, planned, None)
 //!     }
 //! };
 //! let texts = turn_texts(alloc, &turn)?;
@@ -27,15 +28,17 @@
 //!
 //! **What is proved.**
 //!
-//! - The plan ([`plan`], specs/Plans.antt) is a win exactly if the player's own report has an entry
-//!   between his two edges. Otherwise it is a search: among the cells that lie in the carrier of
-//!   each semi entry of the other player between his edges, or, if there is none such and the board
-//!   is lost, among all empty cells.
+//! - The plan ([`plan`], specs/Plans.antt) is a win if the player's own report has an entry between
+//!   his two edges. Otherwise it may rest on a certificate that was found: a win by the cell of its
+//!   claimed `move`, or, if the other player wins, a search of a lost board with this threat. Else
+//!   it is a search: among the cells that lie in the carrier of each semi entry of the other player
+//!   between his edges, or, if there is none such and the board is lost, among all empty cells.
 //! - Each certificate is accepted, and has the kind and the carrier of its entry.
 //! - After the cell of a win its player wins against every reply ([`certified_moves_win`]). Each
 //!   move outside the carrier of a threat loses ([`moves_outside_a_threat_lose`]), and each move on
 //!   a lost board ([`lost_boards_lose`]). So it is of each plan, also without a turn
 //!   ([`plans_tell_who_wins`]).
+//! - With a budget of 0 a plan rests on connections alone, and without them on nothing.
 //! - The shape of a turn has the board, the player, the allowed cells, and the knobs with the seed
 //!   `S + number·2^32` modulo 2^64.
 //! - The turns that are made here are good. With one worker, if no connections are looked for, the
@@ -47,7 +50,8 @@
 //!
 //! **What is only tested, or not said.** That [`plan`], [`turn_texts`] and `MemArchive::make` get
 //! their memory; which entry a certificate is cut from if several would serve; that a report
-//! has a connection that exists; what becomes of turns in [`NoArchive`].
+//! has a connection that exists; that a certificate is found; what becomes of turns in
+//! [`NoArchive`].
 //!
 //! **Limits.** A count of faults stands still at the greatest value of a `u64`. [`plan`] and
 //! [`turn_texts`] take memory, and `MemArchive::make` takes it for all that it will hold; no other
@@ -62,7 +66,11 @@
 //!   since the cell of a certified move depends on which connection was cut.
 //! - A threat is a certificate and a carrier. The claim gives the carrier too; it stands beside it
 //!   so that `mustplay` prints it without a look into the report. `IsThreat` ties both to one semi
-//!   entry.
+//!   entry, `IsFoundThreat` to the verdict of the checker.
+//! - A certificate that was found wins by its claimed line if that is a `move`: the board of this
+//!   line's scope is that with the stone. The finder claims no win of the mover by another line.
+//! - What the look-ahead found stands in the turn, so that a tree's cells are known from the turn:
+//!   the allowed ones, or the one that was chosen.
 //! - Threats are one for each carrier. Two semi entries of one pair never have one carrier, but no
 //!   clause of conn_store says so. They are found one after another, each time the least carrier
 //!   from a bound on, so that no list is sorted.
@@ -77,6 +85,7 @@ mod collecting;
 mod edges;
 mod in_memory;
 mod laws;
+mod look_texts;
 mod mustplay_texts;
 mod openings;
 mod planning;
@@ -84,7 +93,9 @@ mod plans;
 mod refusals;
 mod regions;
 mod report_texts;
+mod settings;
 mod shapes;
+mod solving;
 mod texts;
 mod threats;
 mod turns;
@@ -101,6 +112,7 @@ pub use openings::may_move;
 pub use planning::plan;
 pub use plans::Planned;
 pub use refusals::{ArchiveFault, Memory};
+pub use settings::Means;
 pub use shapes::turn_shape;
 pub use texts::{TurnTexts, turn_texts};
 pub use threats::{Threat, Threats};

@@ -4,7 +4,9 @@ ghost use Rattle.std.specs.Prelude.{◌≡◌, ℕ, IfOk, None, true, false};
 ghost use Rattle.hex_board.specs.Joined.{winner_of};
 ghost use Rattle.hex_board.specs.Positions.{is_empty_at};
 ghost use Rattle.hsearch.specs.Closed.{IsReportOf};
-ghost use Rattle.hex_plan.specs.Plans.{AllowsEmpties, IsEdgeEntry, IsFree, IsPlanned};
+ghost use Rattle.hex_plan.specs.Planning.{IsFoundFor};
+ghost use Rattle.hex_plan.specs.Plans.{AllowsEmpties, IsConnected, IsEdgeEntry, IsFree, IsPlanned};
+ghost use Rattle.hex_plan.specs.Plans.{IsPlannedFor};
 ghost use Rattle.hex_board.specs.Elements.{are_joined};
 ghost use Rattle.win_cert.specs.Cuts.{HasEdgeEntryAt};
 ghost use Rattle.conn_store.specs.declared.entries.Entry.{Entry};
@@ -14,6 +16,8 @@ use super::edges::edge_entry;
 use super::plans::Planned;
 use super::refusals::Memory;
 use super::regions::{empties_of, mustplay_region};
+use super::settings::Means;
+use super::solving::found_plan;
 use super::threats::Threats;
 use super::types::Plan;
 use super::winning::winning_cell;
@@ -23,27 +27,53 @@ use hsearch::{Report, connect};
 use std::alloc::Global;
 use win_cert::cut;
 
-/// What is planned on the board for the player to move, with a look for connections or without.
-/// No player is joined there, and a cell is empty.
+/// What is planned with these means on the board for the player to move. No player is joined there,
+/// and a cell is empty.
 ///
-/// Without it, the plan is a search among all empty cells. With it, the plan is a win if the
-/// player's report has an entry between his two edges; else it is a search among the empty cells
-/// that lie in the carrier of each threat of the other player.
+/// Without a look for connections, the plan is a search among all empty cells. With it, the plan is
+/// a win if the player's report has an entry between his two edges. Otherwise a certificate of who
+/// wins is looked for by entering at most `solve` positions. If the player does, the plan is a win
+/// by it; if the other one does, a search among all empty cells of a lost board. Else it is a
+/// search among the empty cells that lie in the carrier of each threat of the other player.
 ///
 /// It refuses only if memory runs out.
-pub fn plan(alloc: Global, board: &Board, colour: Colour, hsearch: bool) -> Result<Planned, Memory>
+pub fn plan(alloc: Global, board: &Board, colour: Colour, means: Means) -> Result<Planned, Memory>
     requires nobody { winner_of board.now ≡ None }
     requires room { (k : ℕ) × (is_empty_at board.now k ≡ true) }
-    ensures planned { IfOk result (IsPlanned board.now colour hsearch) }
+    ensures planned { IfOk result (IsPlanned board.now colour means) }
     ensures allowed { IfOk result (λ planned. AllowsEmpties board.now planned.plan) }
 {
-    if !hsearch {
+    if !means.hsearch {
         return Ok(free_plan(alloc, board));
     }
     let own = connect(alloc, board, colour)?;
     match edge_entry(&own) {
         Some(number) => win_plan(alloc, own, number),
+        None => unjoined_plan(alloc, board, colour, own, means.solve),
+    }
+}
+
+// The plan if the player's own report has no entry between his two edges: by a certificate that is
+// found, or to search.
+fn unjoined_plan(
+    alloc: Global,
+    board: &Board,
+    colour: Colour,
+    own: Report,
+    solve: u32,
+) -> Result<Planned, Memory>
+    requires nobody { winner_of board.now ≡ None }
+    requires own { IsReportOf board.now colour own }
+    requires unjoined { (a : Entry) → ¬ (IsEdgeEntry own a) }
+    ensures { IfOk result (IsPlannedFor board.now colour true solve) }
+{
+    match found_plan(alloc, board, colour, solve)? {
         None => search_plan(alloc, board, colour, own),
+        Some(plan) => Ok(Planned {
+            plan,
+            own: Some(own),
+            other: None,
+        }),
     }
 }
 
@@ -66,7 +96,7 @@ fn free_plan(alloc: Global, board: &Board) -> Planned
 fn win_plan(alloc: Global, own: Report, number: u32) -> Result<Planned, Memory>
     requires apart { are_joined own.elements ≡ false }
     requires entry { HasEdgeEntryAt own number }
-    ensures { IfOk result (IsPlanned own.elements.board own.elements.player true) }
+    ensures { IfOk result (IsConnected own.elements.board own.elements.player) }
 {
     let cert = cut(alloc, &own, number)?;
     let cell = winning_cell(&own, number);
@@ -84,7 +114,7 @@ fn search_plan(alloc: Global, board: &Board, colour: Colour, own: Report) -> Res
     requires nobody { winner_of board.now ≡ None }
     requires own { IsReportOf board.now colour own }
     requires unjoined { (a : Entry) → ¬ (IsEdgeEntry own a) }
-    ensures { IfOk result (IsPlanned board.now colour true) }
+    ensures { IfOk result (IsConnected board.now colour) }
 {
     let other = connect(alloc, board, colour.other())?;
     let threats = threats_of(alloc, &other)?;

@@ -1,6 +1,6 @@
 //! What a call of this crate answers in place of a value.
 
-use std::alloc::AllocError;
+use std::alloc::{AllocError, AllocFailed};
 
 /// An archive did not take a turn, and counted a fault.
 #[derive(Debug, Clone, Copy, PartialEq, Eq, Drop)]
@@ -18,6 +18,24 @@ impl From<AllocError> for Memory {
 
 impl From<hsearch::Memory> for Memory {
     fn from(_refused: hsearch::Memory) -> Memory {
+        Memory
+    }
+}
+
+impl<T: Drop> From<AllocFailed<T>> for Memory {
+    fn from(_refused: AllocFailed<T>) -> Memory {
+        Memory
+    }
+}
+
+impl From<cert_check::Memory> for Memory {
+    fn from(_refused: cert_check::Memory) -> Memory {
+        Memory
+    }
+}
+
+impl From<hex_found::Memory> for Memory {
+    fn from(_refused: hex_found::Memory) -> Memory {
         Memory
     }
 }

@@ -1,10 +1,11 @@
-//! What the commands `search-report`, `mustplay` and `wincert` say of a turn.
+//! What the commands `search-report`, `look-report`, `mustplay` and `wincert` say of a turn.
 
 ghost use Rattle.std.specs.Prelude.{◌≡◌, ◌-◌, IfOk, length, option_map, take};
-ghost use Rattle.hex_plan.specs.TurnTexts.{mustplay_of, texts_of, wincert_of};
+ghost use Rattle.hex_plan.specs.TurnTexts.{look_of, mustplay_of, texts_of, wincert_of};
 ghost use Rattle.win_cert.specs.Texts.{cert_text};
 ghost use Rattle.win_cert.specs.Writable.{IsWritable};
 
+use super::look_texts::look_text;
 use super::mustplay_texts::{search_text, win_text};
 use super::report_texts::report_text;
 use super::turns::Turn;
@@ -13,10 +14,11 @@ use std::alloc::{AllocError, Global};
 use std::marker::Model;
 use win_cert::{Cert, write};
 
-/// What `search-report`, `mustplay` and `wincert` say of a turn.
+/// What `search-report`, `look-report`, `mustplay` and `wincert` say of a turn.
 #[derive(Debug, Drop)]
 pub struct TurnTexts {
     report: Option<Vec<u8>>,
+    look: Option<Vec<u8>>,
     mustplay: Vec<u8>,
     wincert: Option<Vec<u8>>,
 }
@@ -29,6 +31,7 @@ impl Model for TurnTexts {
 
     ghost view = { λ t. record {
       report = option_map (λ text. text.items) t.report;
+      look = option_map (λ text. text.items) t.look;
       mustplay = t.mustplay.items;
       wincert = option_map (λ text. text.items) t.wincert;
     } };
@@ -40,6 +43,16 @@ impl TurnTexts {
         ensures { option_map (λ text. text.now) result ≡ self.now.report }
     {
         match &self.report {
+            Some(text) => Some(text.as_slice()),
+            None => None,
+        }
+    }
+
+    /// What the turn's look-ahead found; `None` exactly if it had none.
+    pub fn look(&self) -> Option<&[u8]>
+        ensures { option_map (λ text. text.now) result ≡ self.now.look }
+    {
+        match &self.look {
             Some(text) => Some(text.as_slice()),
             None => None,
         }
@@ -70,13 +83,26 @@ pub fn turn_texts(alloc: Global, turn: &Turn) -> Result<TurnTexts, AllocError>
     ensures { IfOk result (λ texts. texts ≡ texts_of turn.now) }
 {
     let report = report_text(alloc, turn)?;
+    let look = looked_text(alloc, turn)?;
     let mustplay = mustplay_text(alloc, turn)?;
     let wincert = wincert_text(alloc, turn)?;
     Ok(TurnTexts {
         report,
+        look,
         mustplay,
         wincert,
     })
+}
+
+// What the turn's look-ahead found, if it had one.
+fn looked_text(alloc: Global, turn: &Turn) -> Result<Option<Vec<u8>>, AllocError>
+    ensures { IfOk result (λ look. option_map (λ text. text.items) look
+        ≡ option_map (look_of turn.now.board.size) turn.now.looked) }
+{
+    match turn.looked() {
+        None => Ok(None),
+        Some(looked) => Ok(Some(look_text(alloc, looked, turn.board().size())?)),
+    }
 }
 
 // Of a win its cell, of a search whether the board is lost, the allowed cells and the threats.

@@ -1,32 +1,36 @@
 //! Turns.
 
-ghost use Rattle.std.specs.Prelude.{◌≡◌, ◌*◌, ◌<◌, Bool, true, IfSome, option_map};
+ghost use Rattle.std.specs.Prelude.{◌≡◌, ◌*◌, ◌<◌, true, IfSome, option_map};
 ghost use Rattle.std.specs.Option.{ForSome};
 ghost use Rattle.hex_board.specs.Positions.{is_empty_at};
 ghost use Rattle.tree_words.specs.Closing.{IsClosed};
 ghost use Rattle.tree_words.specs.Roots.{IsBest};
 ghost use Rattle.tree_words.specs.Settings.{IsSetting};
 ghost use Rattle.hex_plan.specs.Good.{IsGoodAsPlanned, IsGoodAsSearched};
-ghost use Rattle.hex_plan.specs.Plans.{IsPlanned, IsSearchAmong, IsWin, IsWinBy};
-ghost use Rattle.hex_plan.specs.Turns.{DecidesBy, turn_of_search, turn_of_win};
+ghost use Rattle.hex_plan.specs.Plans.{IsPlanned, IsWin, IsWinBy};
+ghost use Rattle.hex_plan.specs.Turns.{DecidesBy, IsSearchedBy, turn_of_search, turn_of_win};
+ghost use Rattle.hex_plan.specs.declared.settings.Means.{Means};
 
 use super::plans::Planned;
 use super::types::Plan;
 use hex_board::Board;
 use hex_cells::{Cell, Colour};
+use look_ahead::Looked;
 use std::marker::Model;
 use tree_words::{Closed, best};
 
-/// A turn: the board, the player to move there, the turn's number, what was planned, the closed
-/// tree that was searched for it, if one was, and the cell that was chosen. It keeps that the cell
-/// is empty, and that the plan decides it: the cell is that of a win, or the best one of a tree of
-/// the turn's board, player and allowed cells.
+/// A turn: the board, the player to move there, the turn's number, what was planned, what the look-
+/// ahead found, if there was one, the closed tree that was searched for it, if one was, and the
+/// cell that was chosen. It keeps that the cell is empty, and that the plan decides it: the cell is
+/// that of a win, or the best one of a tree of the turn's board and player, of the allowed cells or
+/// the one of them that the look-ahead chose.
 #[derive(Drop)]
 pub struct Turn {
     board: Board,
     colour: Colour,
     number: u64,
     planned: Planned,
+    looked: Option<Looked>,
     closed: Option<Closed>,
     cell: Cell,
 }
@@ -41,6 +45,7 @@ impl Model for Turn {
       player = t.colour;
       number = t.number;
       planned = t.planned;
+      looked = t.looked;
       closed = t.closed;
       cell = t.cell;
     } };
@@ -51,6 +56,7 @@ impl Model for Turn {
           player = t.colour;
           number = t.number;
           planned = t.planned;
+          looked = t.looked;
           closed = t.closed;
           cell = t.cell;
         }) };
@@ -84,7 +90,7 @@ impl Turn {
     /// and it has no tree.
     pub fn won(board: &Board, colour: Colour, number: u64, planned: Planned) -> Turn
         requires win { IsWin planned.plan }
-        requires planned { (hsearch : Bool) × IsPlanned board.now colour hsearch planned }
+        requires planned { (means : Means) × IsPlanned board.now colour means planned }
         ensures parts { result ≡ turn_of_win board.now colour number planned result.cell }
         ensures cell { IsWinBy planned.plan result.cell }
         ensures empty { is_empty_at board.now result.cell ≡ true }
@@ -100,20 +106,21 @@ impl Turn {
             colour,
             number,
             planned,
+            looked: None,
             closed: None,
             cell,
         }
     }
 
-    /// The turn with this number that the tree decides if the plan is a search among the allowed
-    /// cells of the tree: its board and player are those of the tree, and its cell is the
-    /// tree's best.
-    pub fn searched(closed: Closed, number: u64, planned: Planned) -> Turn
-        requires { IsSearchAmong planned.plan closed.shape.allowed }
-        ensures parts { result ≡ turn_of_search closed number planned result.cell }
+    /// The turn with this number that the tree decides after this look-ahead, if there was one, if
+    /// the plan is a search and the tree's cells are those that are searched then: its board and
+    /// player are those of the tree, and its cell is the tree's best.
+    pub fn searched(closed: Closed, number: u64, planned: Planned, looked: Option<Looked>) -> Turn
+        requires { IsSearchedBy planned.plan looked closed.shape.allowed }
+        ensures parts { result ≡ turn_of_search closed number planned looked result.cell }
         ensures best { IsBest closed.shape closed.words result.cell }
         ensures empty { is_empty_at closed.shape.board result.cell ≡ true }
-        ensures good { IsGoodAsSearched result number planned closed }
+        ensures good { IsGoodAsSearched result number planned looked closed }
     {
         let cell = decided(&closed);
         let shape = closed.shape();
@@ -124,6 +131,7 @@ impl Turn {
             colour,
             number,
             planned,
+            looked,
             closed: Some(closed),
             cell,
         }
@@ -156,6 +164,13 @@ impl Turn {
         ensures decided { DecidesBy self.now self.now.planned.plan }
     {
         &self.planned
+    }
+
+    /// What the look-ahead found, if there was one.
+    pub fn looked(&self) -> Option<&Looked>
+        ensures { option_map (λ looked. looked.now) result ≡ self.now.looked }
+    {
+        self.looked.as_ref()
     }
 
     /// The tree that was searched for the turn, if one was: one of its board and player.

@@ -1,10 +1,11 @@
 //! The search with connections: who wins a position, and the entries between the edges that show
 //! it.
 //!
-//! **Nouns.** *Entries* and their tables are those of `edge_tables`. A *state* is a board with who
-//! moves next. A *node* is a state that was entered, with its *effort*: the proof and the disproof
-//! number of proof-number search. The *replies* at a state are the cells that all carriers of the
-//! other's semi entries have in common: a stone elsewhere is answered.
+//! **Nouns.** *Entries* and their tables are those of `edge_tables`, *reports* those of
+//! `edge_reach`. A *state* is a board with who moves next. A *node* is a state that was entered,
+//! with its *effort*: the proof and the disproof number of proof-number search. The *replies* at a
+//! state are the cells that all carriers of the other's semi entries have in common: a stone
+//! elsewhere is answered.
 //!
 //! **A caller** makes a [`Search`] and asks it to [`Search::decide`]; what it found is in its
 //! tables ([`Search::tables`]).
@@ -13,20 +14,16 @@
 //! least disproof number, and makes the mover's report there, in which a semi entry ends it, and
 //! otherwise the other's. A state is decided by a semi entry of the mover whose carrier is empty,
 //! by a full one of the other's, if no reply is left, or by a reply after which the mover has a
-//! full entry. If no reply is left, the other's semi entries are the cases of a full one.
+//! full entry or leaves none. If no reply is left, the other's semi entries are the cases of a full
+//! one.
 //!
-//! **What is proved.** That each call is safe and ends. That no more states are counted as entered
-//! than the budget has, that it is told to be spent only if as many were counted, and that a search
-//! gets at most one node for each. If [`Search::decide`] says who wins, an entry of its tables
-//! shows it (specs/Shown.antt); if an entry shows it at the call, it says so and enters nothing.
-//! That the entry is true is not said: `hex_found` makes certificates of what was found, and these
-//! are checked. A new search knows nothing; [`Search::take`] keeps what was there, and has for each
-//! entry of the other search one that stands wherever that does.
+//! **What is proved.** That each call is safe and ends, that no more states are counted as entered
+//! than the budget has, and that it is told to be spent only if as many were counted. Nothing of
+//! who wins: `hex_found` makes certificates of what was found, and these are checked.
 //!
-//! **What is only tested, or not said.** That a winner is found whom no entry shows yet, and how
-//! soon; that each state that is counted was entered, since none of what a search keeps is a list
-//! of them. Without a promise, by trial: in which order cells are tried ([`Order`]), and how many
-//! are looked at.
+//! **What is only tested, or not said.** Who wins, and how soon that is found; that each state that
+//! is counted was entered. Without a promise, by trial: in which order cells are tried ([`Order`]),
+//! and how many are looked at.
 //!
 //! **Limits.** 1,000,000 nodes and the entries of `edge_tables`. A full table ends a search like a
 //! spent budget.
@@ -35,20 +32,24 @@
 //!
 //! - The search may leave a stone for another and come back: a search that never leaves one that it
 //!   has begun finds proofs with ten times as many lines.
-//! - A node looks at half of its cells and one more, by the sum of both players' distances between
-//!   their edges. If these lose, others follow, since a cell that is answered is no reply.
-//! - Every loop is a `for`, which needs no proof that it ends.
+//! - A node looks at half of its cells and one more, by the product of both players' currents. If
+//!   these lose, others follow, since a cell that is answered is no reply.
+//! - To show a loss counts the hardest reply, and one for each other: replies share most of what is
+//!   to be shown, which a sum would count again and again. A state that was never entered counts
+//!   the replies that the tables leave there.
 //!
 //! Source: focused proof-number search, which looks at a part of a node's moves, over H-search and
-//! mustplay regions (P. Henderson, B. Arneson and R. Hayward).
+//! mustplay regions (P. Henderson, B. Arneson and R. Hayward). The greatest proof number in place
+//! of the sum is the weak proof number (T. Ueda and others).
 #![tactic(auto)]
 
-mod distances;
 mod nodes;
 mod orders;
+mod reporters;
 mod searches;
 mod states;
 
 pub use orders::Order;
+pub use reporters::{MOVER_LIMITS, OTHER_LIMITS};
 pub use searches::{Outcome, Search};
 pub use states::State;

@@ -1,24 +1,18 @@
 //! Proof-number search without recursion. A round goes from the root down to a state that is new,
 //! enters it, and goes back up.
 
-ghost use Rattle.std.specs.Prelude.{◌≡◌, ◌+◌, ◌≤◌, [], All, Bool, IfErr, IfOk, None, Ok, OnOk};
-ghost use Rattle.std.specs.Prelude.{IsSome, Some, length};
-ghost use Rattle.std.specs.Borrow.{sem};
-ghost use Rattle.edge_tables.specs.Entries.{HasStandIn, IsPrefixOf};
-ghost use Rattle.hex_scout.specs.Lending.{LendsTables};
-ghost use Rattle.hex_scout.specs.Shown.{ShowsOutcome};
+ghost use Rattle.std.specs.Prelude.{◌≡◌, ◌≤◌, IfOk, None, Ok};
 
-use super::distances::add_ways;
 use super::nodes::{Effort, MOST_NODES, NEVER, Nodes};
-use super::orders::{Order, in_order};
-use super::states::{State, key_on};
-use conn_store::{Kind, Store};
+use super::orders::{Currents, Order};
+use super::reporters::Reporters;
+use super::states::State;
+use conn_store::Kind;
+use edge_reach::cells_of;
 use edge_tables::{
-    Counter, EdgeEntry, Key, Measure, Origin, Saving, Stop, Tables, choices_of, cover, edge_held,
-    together, value_at,
+    EdgeEntry, Key, Measure, Origin, Saving, Stop, Tables, choices_of, cover, together,
 };
-use hex_cells::{Cell, CellSet, Colour, MOST_CELLS};
-use hsearch::connect;
+use hex_cells::{Cell, CellSet, MOST_CELLS, Size};
 use std::alloc::Global;
 
 /// What a search came to.
@@ -44,75 +38,45 @@ enum Way {
 pub struct Search {
     tables: Tables,
     nodes: Nodes,
-    counter: Counter,
+    reporters: Reporters,
     order: Order,
 }
 
 impl Search {
-    /// A search that knows nothing.
-    pub fn make(alloc: Global, order: Order) -> Result<Search, Stop>
-        ensures no_entry { IfOk result (λ s. s.tables ≡ []) }
-        ensures no_node { IfOk result (λ s. s.nodes.list.items ≡ []) }
-        ensures order { IfOk result (λ s. s.order ≡ order) }
-        ensures refused { IfErr result (λ stop. stop ≡ Stop.Memory) }
-    {
-        let tables = Tables::make(alloc)?;
-        let nodes = Nodes::make(alloc)?;
-        let counter = Counter::make(alloc)?;
+    /// A search that knows nothing, on boards of this size.
+    pub fn make(alloc: Global, size: Size, order: Order) -> Result<Search, Stop> {
+        let reporters = Reporters::make(alloc, size)?;
         Ok(Search {
-            tables,
-            nodes,
-            counter,
+            tables: Tables::new(alloc),
+            nodes: Nodes::new(alloc),
+            reporters,
             order,
         })
     }
 
     /// The entries that it found.
-    pub fn tables(&self) -> &Tables
-        ensures { result.now ≡ self.now.tables }
-    {
+    pub fn tables(&self) -> &Tables {
         &self.tables
     }
 
     /// The same, to be changed.
-    pub fn tables_mut(&mut self) -> &mut Tables
-        ensures* writes_back { sem 𝓛 (LendsTables self.entry result) }
-        ensures value { result.now ≡ self.entry.now.tables }
-    {
+    pub fn tables_mut(&mut self) -> &mut Tables {
         &mut self.tables
     }
 
-    /// Takes what another search found.
-    pub fn take(&mut self, other: &Search) -> Result<(), Stop>
-        ensures kept { IsPrefixOf self.old.tables self.new.tables }
-        ensures served { OnOk result (All (HasStandIn self.new.tables) other.now.tables) }
-        ensures nodes { self.new.nodes ≡ self.old.nodes }
-        ensures order { self.new.order ≡ self.old.order }
-    {
-        self.tables.put_all(&other.tables)
-    }
-
-    /// Goes on until it is known who wins, or so many states were entered. It gets at most one node
-    /// for each of them, and that the budget is spent is told only if they are as many. An entry of
-    /// the tables shows who it says wins. If one shows that already, it is told at once: nothing is
-    /// entered, and nothing changes.
+    /// Goes on until it is known who wins, or so many states were entered. That the budget is spent
+    /// is told only if they are as many.
     ///
-    /// A body is proved that gives up where no entry shows who wins, or that counts states and
-    /// enters none; tests tell what is found.
+    /// A body is proved that says anything of who wins, or that counts states and enters none;
+    /// tests tell what is found.
     pub fn decide(&mut self, alloc: Global, root: &State, budget: u64) -> Outcome
         ensures within { result.entered ≤ budget }
         ensures spent { result.by_mover ≡ Ok None → result.entered ≡ budget }
-        ensures shown { (by_mover : Bool) → result.by_mover ≡ Ok (Some by_mover)
-            → ShowsOutcome self.new.tables root.now by_mover }
-        ensures found { (by_mover : Bool) → ShowsOutcome self.old.tables root.now by_mover
-            → (result.entered ≡ 0) × (self.new ≡ self.old)
-            × ((told : Bool) × (result.by_mover ≡ Ok (Some told))) }
-        ensures nodes { length self.new.nodes.list.items
-            ≤ length self.old.nodes.list.items + result.entered }
     {
         let mut path = Vec::new(alloc);
-        'turns: for entered in 0..budget {
-            match self.enter_next(alloc, root, &mut path) {
+        for entered in 0..budget {
+            let next = self.enter_next(alloc, root, &mut path);
+            match next {
                 Ok(None) => {}
                 Ok(Some(by_mover)) => {
                     return Outcome {
@@ -139,22 +103,41 @@ impl Search {
         }
     }
 
+    /// If the player to move is known to win, looks for a stone of his that is known to win too, by
+    /// entering at most `budget` of the states after one on a cell of his narrowest entry. It
+    /// answers how many it entered.
+    pub fn look_for_stone(&mut self, alloc: Global, state: &State, budget: u64) -> Result<u64, Stop>
+        ensures within { IfOk result (λ entered. entered ≤ budget) }
+    {
+        let key = state.own_key(Kind::Semi);
+        let empties = state.board.empties();
+        let Some(entry) = self.tables.least(&key, empties, Measure::Cells) else {
+            return Ok(0);
+        };
+        if cells_of(entry.carrier).any(|cell| self.after_stone(state, cell).is_some()) {
+            return Ok(0);
+        }
+        let mut rest = entry.carrier;
+        for entered in 0..budget {
+            let Some(cell) = rest.least() else {
+                return Ok(entered);
+            };
+            rest = rest.without(cell);
+            self.enter(alloc, &state.after(cell))?;
+            if self.after_stone(state, cell).is_some() {
+                return Ok(entered + 1);
+            }
+        }
+        Ok(budget)
+    }
+
     // Enters the next state, unless it is known whether the player to move wins.
     fn enter_next(
         &mut self,
         alloc: Global,
         root: &State,
         path: &mut Vec<State>,
-    ) -> Result<Option<bool>, Stop>
-        ensures fewer { length self.new.nodes.list.items
-            ≤ length self.old.nodes.list.items + 1 }
-        ensures known { (by_mover : Bool) → result ≡ Ok (Some by_mover)
-            → length self.new.nodes.list.items ≡ length self.old.nodes.list.items }
-        ensures shown { (by_mover : Bool) → result ≡ Ok (Some by_mover)
-            → ShowsOutcome self.new.tables root.now by_mover }
-        ensures found { (by_mover : Bool) → ShowsOutcome self.old.tables root.now by_mover
-            → (self.new ≡ self.old) × ((told : Bool) × (result ≡ Ok (Some told))) }
-    {
+    ) -> Result<Option<bool>, Stop> {
         match self.go_down(alloc, root, path)? {
             Way::Known(by_mover) => Ok(Some(by_mover)),
             Way::New(state) => {
@@ -167,14 +150,8 @@ impl Search {
 
     // Rounds until the path leads to a state that is new, or it is known whether the player to move
     // wins. One that meets no new state decides a node, so there are at most as many.
-    fn go_down(&mut self, alloc: Global, root: &State, path: &mut Vec<State>) -> Result<Way, Stop>
-        ensures count { length self.new.nodes.list.items ≡ length self.old.nodes.list.items }
-        ensures shown { (by_mover : Bool) → result ≡ Ok (Way.Known by_mover)
-            → ShowsOutcome self.new.tables root.now by_mover }
-        ensures found { (by_mover : Bool) → ShowsOutcome self.old.tables root.now by_mover
-            → (self.new ≡ self.old) × ((told : Bool) × (result ≡ Ok (Way.Known told))) }
-    {
-        'rounds: for _round in 0..MOST_NODES {
+    fn go_down(&mut self, alloc: Global, root: &State, path: &mut Vec<State>) -> Result<Way, Stop> {
+        for _round in 0..MOST_NODES {
             if let Some(by_mover) = self.known(root) {
                 return Ok(Way::Known(by_mover));
             }
@@ -184,16 +161,11 @@ impl Search {
             }
             self.up(alloc, path)?;
         }
-        Err(Stop::Full)
+        Err(Stop::NoWay)
     }
 
     // Whether the player to move wins, if an entry says so.
-    fn known(&self, state: &State) -> Option<bool>
-        ensures shown { (by_mover : Bool) → result ≡ Some by_mover
-            → ShowsOutcome self.now.tables state.now by_mover }
-        ensures found { (by_mover : Bool) → ShowsOutcome self.now.tables state.now by_mover
-            → IsSome result }
-    {
+    fn known(&self, state: &State) -> Option<bool> {
         let empties = state.board.empties();
         if self.tables.has(&state.own_key(Kind::Semi), empties) {
             return Some(true);
@@ -217,21 +189,18 @@ impl Search {
         alloc: Global,
         root: &State,
         path: &mut Vec<State>,
-    ) -> Result<Option<State>, Stop>
-        ensures count { length self.new.nodes.list.items ≡ length self.old.nodes.list.items }
-    {
+    ) -> Result<Option<State>, Stop> {
         let mut state = *root;
-        'stones: for _depth in 0..MOST_CELLS {
+        for _depth in 0..MOST_CELLS {
             path.push(state)?;
             if self.settle(alloc, &state)? {
                 return Ok(None);
             }
-            let place = self.nodes.find_board(&state.board);
-            if !self.nodes.is_at(place) {
+            let Some(place) = self.nodes.find(&state.board) else {
                 return Ok(Some(state));
-            }
-            let (_effort, Some(cell)) = self.next(&state, place) else {
-                return Err(Stop::Full);
+            };
+            let (_effort, Some(cell)) = self.weigh(&state, place) else {
+                return Err(Stop::NoWay);
             };
             state = state.after(cell);
         }
@@ -239,69 +208,84 @@ impl Search {
     }
 
     // Back up the path.
-    fn up(&mut self, alloc: Global, path: &[State]) -> Result<(), Stop>
-        ensures count { length self.new.nodes.list.items ≡ length self.old.nodes.list.items }
-    {
-        'states: for place in (0..path.len()).rev() {
-            if let Some(state) = path.get(place) {
-                self.renew(alloc, state)?;
+    fn up(&mut self, alloc: Global, path: &[State]) -> Result<(), Stop> {
+        for state in path.iter().rev() {
+            if !self.settle(alloc, state)?
+                && let Some(place) = self.nodes.find(&state.board)
+            {
+                let (effort, _cell) = self.weigh(state, place);
+                self.nodes.set_effort(place, effort);
             }
         }
         Ok(())
     }
 
-    // Settles a state, or sets its effort anew.
-    fn renew(&mut self, alloc: Global, state: &State) -> Result<(), Stop>
-        ensures count { length self.new.nodes.list.items ≡ length self.old.nodes.list.items }
-    {
-        if !self.settle(alloc, state)? {
-            let place = self.nodes.find_board(&state.board);
-            let (effort, _cell) = self.next(state, place);
-            self.nodes.set_effort(place, &effort);
-        }
-        Ok(())
-    }
-
     // Whether it is known who wins; if so, the effort is set.
-    fn settle(&mut self, alloc: Global, state: &State) -> Result<bool, Stop>
-        ensures count { length self.new.nodes.list.items ≡ length self.old.nodes.list.items }
-    {
-        let place = self.nodes.find_board(&state.board);
+    fn settle(&mut self, alloc: Global, state: &State) -> Result<bool, Stop> {
+        let place = self.nodes.find(&state.board);
         let decided = self.winner(alloc, state, place)?;
-        if let Some(by_mover) = decided {
-            self.nodes.set_effort(place, &Effort::decided(by_mover));
+        if let Some(by_mover) = decided
+            && let Some(place) = place
+        {
+            self.nodes.set_effort(place, Effort::decided(by_mover));
         }
         Ok(decided.is_some())
     }
 
     // Whether the player to move wins, if that follows from what is known by one step.
-    fn winner(&mut self, alloc: Global, state: &State, place: u32) -> Result<Option<bool>, Stop>
-        ensures count { length self.new.nodes.list.items ≡ length self.old.nodes.list.items }
-    {
+    fn winner(
+        &mut self,
+        alloc: Global,
+        state: &State,
+        place: Option<usize>,
+    ) -> Result<Option<bool>, Stop> {
         if let Some(by_mover) = self.known(state) {
             return Ok(Some(by_mover));
         }
-        let replies = self.replies(state);
-        if replies.is_empty() {
-            self.put_cases(alloc, state)?;
+        if self.replies(state).is_empty() {
+            let key = state.other_key(Kind::Semi);
+            self.put_cases(alloc, &key, state.board.empties())?;
             return Ok(Some(false));
         }
-        let Some(entry) = self.winning_stone(state, place, replies) else {
+        match place {
+            Some(place) => self.win_by_stone(alloc, state, place),
+            None => Ok(None),
+        }
+    }
+
+    // Whether a stone of the mover's is known to win; if so, his semi entry by it is put. If none
+    // is known to, it is that by the first stone after which no reply is left.
+    fn win_by_stone(
+        &mut self,
+        alloc: Global,
+        state: &State,
+        place: usize,
+    ) -> Result<Option<bool>, Stop> {
+        let replies = self.replies(state);
+        if let Some(entry) = self.winning_stone(state, place, replies) {
+            self.tables.put(&state.own_key(Kind::Semi), &entry)?;
+            return Ok(Some(true));
+        }
+        let unanswered = cells_of(replies).find(|cell| self.replies_after(state, *cell).is_empty());
+        let Some(cell) = unanswered else {
             return Ok(None);
         };
-        self.tables.put(&entry)?;
+        let key = state.key_after(Kind::Semi, cell);
+        self.put_cases(alloc, &key, state.board.empties().without(cell))?;
+        let Some(entry) = self.after_stone(state, cell) else {
+            return Ok(None);
+        };
+        self.tables.put(&state.own_key(Kind::Semi), &entry)?;
         Ok(Some(true))
     }
 
     // The semi entry of the mover by a stone after which he is known to win, that with the fewest
     // cells.
-    fn winning_stone(&self, state: &State, place: u32, replies: CellSet) -> Option<EdgeEntry> {
+    fn winning_stone(&self, state: &State, place: usize, replies: CellSet) -> Option<EdgeEntry> {
         let mut best: Option<EdgeEntry> = None;
-        for number in 0..self.nodes.cell_count(place) {
-            if let Some(cell) = self.nodes.cell(place, number)
-                && replies.has(cell)
-            {
-                best = narrower(best, self.after_stone(state, cell));
+        for cell in self.nodes.cells(place) {
+            if replies.has(*cell) {
+                best = narrower(best, self.after_stone(state, *cell));
             }
         }
         best
@@ -309,140 +293,98 @@ impl Search {
 
     // The semi entry of the mover by a stone on this cell, if he is known to win then.
     fn after_stone(&self, state: &State, cell: Cell) -> Option<EdgeEntry> {
-        let own = state.own_key(Kind::Semi);
-        let key = Key {
-            kind: Kind::Full,
-            stones: own.stones.with(cell),
-            ..own
-        };
+        let key = state.key_after(Kind::Full, cell);
         let region = state.board.empties().without(cell);
         let entry = self.tables.least(&key, region, Measure::Cells)?;
         Some(EdgeEntry {
-            key: own,
             carrier: entry.carrier.with(cell),
             lines: entry.lines.saturating_add(2),
             origin: Origin::Move(cell),
         })
     }
 
-    // Puts the full entry of the other player by cases, since no reply is left.
-    fn put_cases(&mut self, alloc: Global, state: &State) -> Result<(), Stop>
-        ensures count { length self.new.nodes.list.items ≡ length self.old.nodes.list.items }
-    {
-        let empties = state.board.empties();
-        let semi = state.other_key(Kind::Semi);
-        let list = choices_of(alloc, &self.tables.list(alloc, &semi, empties)?)?;
-        let chosen = cover(alloc, &list, empties, Saving::Cells)?;
+    // The replies that are left after the mover's stone on the cell.
+    fn replies_after(&self, state: &State, cell: Cell) -> CellSet {
+        let key = state.key_after(Kind::Semi, cell);
+        self.tables
+            .common(&key, state.board.empties().without(cell))
+    }
+
+    // Puts a full entry by cases, since the semi entries of the key in this region leave no reply.
+    fn put_cases(&mut self, alloc: Global, semi: &Key, region: CellSet) -> Result<(), Stop> {
+        let list = choices_of(alloc, &self.tables.list(alloc, semi, region)?)?;
+        let chosen = cover(alloc, &list, region, Saving::Cells)?;
         let (carrier, lines) = together(&list, &chosen);
-        self.tables.put(&EdgeEntry {
-            key: Key {
-                kind: Kind::Full,
-                ..semi
+        let full = Key {
+            kind: Kind::Full,
+            ..*semi
+        };
+        self.tables.put(
+            &full,
+            &EdgeEntry {
+                carrier,
+                lines,
+                origin: Origin::Cases,
             },
-            carrier,
-            lines,
-            origin: Origin::Cases,
-        })
+        )
     }
 
     // The effort of a node, by those after the first of its cells that are left, and the best of
     // these cells. What is left are the replies, since they were its cells and become fewer.
-    fn next(&self, state: &State, place: u32) -> (Effort, Option<Cell>) {
+    //
+    // To lose takes the greatest of the cells' proofs, and one more for each other cell: they share
+    // what is to be shown, which a sum would count many times.
+    fn weigh(&self, state: &State, place: usize) -> (Effort, Option<Cell>) {
         let replies = self.replies(state);
-        let mut focus = self.order.focus(replies.count());
+        let focus = self.order.focus(replies.count());
         let mut proof = NEVER - 1;
         let mut disproof = 0u32;
         let mut best = None;
-        for number in 0..self.nodes.cell_count(place) {
-            if let Some(cell) = self.nodes.cell(place, number)
-                && replies.has(cell)
-                && 0 < focus
-            {
-                focus -= 1;
-                let effort = self.child_effort(state, cell);
-                disproof = disproof.saturating_add(effort.proof);
-                if effort.disproof < proof || best.is_none() {
-                    proof = effort.disproof;
-                    best = Some(cell);
-                }
+        let cells = self.nodes.cells(place).iter().copied();
+        for cell in cells.filter(|cell| replies.has(*cell)).take(focus as usize) {
+            let effort = self.child_effort(state, cell);
+            disproof = disproof.max(effort.proof);
+            if effort.disproof < proof || best.is_none() {
+                proof = effort.disproof;
+                best = Some(cell);
             }
         }
+        let others = focus.saturating_sub(1);
         let effort = Effort {
             proof: proof.min(NEVER - 1),
-            disproof: disproof.min(NEVER - 1),
+            disproof: disproof.saturating_add(others).min(NEVER - 1),
         };
         (effort, best)
     }
 
     // The effort after a stone on the cell.
     fn child_effort(&self, state: &State, cell: Cell) -> Effort {
-        let own = state.board.stones(state.mover).with(cell);
-        let other = state.board.stones(state.mover.other());
-        let place = match state.mover {
-            Colour::Black => self.nodes.find(own, other),
-            Colour::White => self.nodes.find(other, own),
-        };
-        self.nodes.effort(place)
+        match self.nodes.find(&state.after(cell).board) {
+            Some(place) => self.nodes.effort(place),
+            None => Effort {
+                proof: 1,
+                disproof: self.order.fresh(self.replies_after(state, cell).count()),
+            },
+        }
     }
 
     // Enters a state: looks at the mover's report, and if that doesn't end it at the other's, and
     // makes a node of it if these don't.
-    fn enter(&mut self, alloc: Global, state: &State) -> Result<(), Stop>
-        ensures fewer { length self.new.nodes.list.items
-            ≤ length self.old.nodes.list.items + 1 }
-    {
-        let own = connect(alloc, &state.board, state.mover)?;
-        if 0 < self.keep(own.store(), Kind::Semi)? {
+    fn enter(&mut self, alloc: Global, state: &State) -> Result<(), Stop> {
+        if self.reporters.report_mover(state, &mut self.tables)? {
             return Ok(());
         }
-        let other = connect(alloc, &state.board, state.mover.other())?;
-        let _full = self.keep(other.store(), Kind::Full)?;
-        let _semi = self.keep(other.store(), Kind::Semi)?;
+        self.reporters.report_other(state, &mut self.tables)?;
         if self.settle(alloc, state)? {
             return Ok(());
         }
-        let sums = self.sums(alloc, own.store(), other.store())?;
-        let cells = in_order(alloc, self.replies(state), &sums)?;
+        let mut currents = Currents::none();
+        self.reporters
+            .put_currents(state.board.empties(), &mut currents);
+        let chance = self.nodes.count() as u64;
+        let replies = self.replies(state);
+        let cells = self.order.sorted(alloc, replies, &currents, chance)?;
         self.nodes.put(&state.board, &cells)
-    }
-
-    // For each cell the sum of the distances by which cells are tried in order.
-    fn sums(&self, alloc: Global, own: &Store, other: &Store) -> Result<Vec<u32>, Stop> {
-        let mut sums = vec![in alloc; 0u32; MOST_CELLS as usize]?;
-        add_ways(own, &mut sums);
-        add_ways(other, &mut sums);
-        if self.order.other_twice {
-            add_ways(other, &mut sums);
-        }
-        Ok(sums)
-    }
-
-    // Puts the entries of a kind between the edges: how many there are.
-    fn keep(&mut self, store: &Store, kind: Kind) -> Result<u32, Stop>
-        ensures count { length self.new.nodes.list.items ≡ length self.old.nodes.list.items }
-    {
-        let held = edge_held(store, kind);
-        'entries: for place in 0..held.count {
-            self.keep_one(store, kind, value_at(&held.at, place as usize))?;
-        }
-        Ok(held.count)
-    }
-
-    // Puts an entry between the edges.
-    fn keep_one(&mut self, store: &Store, kind: Kind, number: u32) -> Result<(), Stop>
-        ensures count { length self.new.nodes.list.items ≡ length self.old.nodes.list.items }
-    {
-        let entries = store.entries();
-        let Some(entry) = entries.get(number as usize) else {
-            return Ok(());
-        };
-        let lines = self.counter.lines_of(entries, number)?;
-        self.tables.put(&EdgeEntry {
-            key: key_on(store.board(), store.colour(), kind),
-            carrier: entry.carrier,
-            lines,
-            origin: Origin::Cut(store.board().empties()),
-        })
     }
 }
 

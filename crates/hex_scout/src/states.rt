@@ -1,9 +1,5 @@
 //! States of the game.
 
-ghost use Rattle.std.specs.Prelude.{◌≡◌};
-ghost use Rattle.hex_cells.specs.Colours.{other_of};
-ghost use Rattle.hex_scout.specs.Shown.{key_on};
-
 use conn_store::Kind;
 use edge_tables::Key;
 use hex_board::Board;
@@ -30,27 +26,30 @@ impl State {
     }
 
     /// The key of the mover's entries of a kind.
-    pub(crate) fn own_key(&self, kind: Kind) -> Key
-        ensures { result ≡ key_on self.now.board self.now.mover kind }
-    {
-        key_on(&self.board, self.mover, kind)
+    pub(crate) fn own_key(&self, kind: Kind) -> Key {
+        Key {
+            player: self.mover,
+            kind,
+            stones: self.board.stones(self.mover),
+        }
     }
 
     /// The key of the other player's entries of a kind.
-    pub(crate) fn other_key(&self, kind: Kind) -> Key
-        ensures { result ≡ key_on self.now.board (other_of self.now.mover) kind }
-    {
-        key_on(&self.board, self.mover.other(), kind)
+    pub(crate) fn other_key(&self, kind: Kind) -> Key {
+        let player = self.mover.other();
+        Key {
+            player,
+            kind,
+            stones: self.board.stones(player),
+        }
     }
-}
 
-/// The key of a player's entries of a kind on the board.
-pub(crate) fn key_on(board: &Board, player: Colour, kind: Kind) -> Key
-    ensures { result ≡ key_on board.now player kind }
-{
-    Key {
-        player,
-        kind,
-        stones: board.stones(player),
+    /// The key of the mover's full entries after a stone of his on the cell.
+    pub(crate) fn key_after(&self, kind: Kind, cell: Cell) -> Key {
+        Key {
+            player: self.mover,
+            kind,
+            stones: self.board.stones(self.mover).with(cell),
+        }
     }
 }

@@ -7,7 +7,7 @@ use Rattle.tree_words.specs.declared.settings.Knobs.{Knobs}
 use Rattle.hexd_args.specs.Values.{OptionsInRange, AreKnobs, AreOptions}
 use Rattle.hexd_args.specs.declared.settings.Options.{Options}
 use Rattle.hexd_args.specs.declared.table.TheConstants.{SIZE, WORKERS, PLAYOUTS, SEED, WORDS}
-use Rattle.hexd_args.specs.declared.table.TheConstants.{EXPAND, WEIGHT, STEPS, BUDGET}
+use Rattle.hexd_args.specs.declared.table.TheConstants.{EXPAND, WEIGHT, SOLVE, LOOK, STEPS, BUDGET}
 
 knobs_in_range : (value : TextBytes → Option TextBytes) (k : Knobs) → AreKnobs value k
     → AreInRange k
@@ -27,6 +27,8 @@ pub in_range : (value : TextBytes → Option TextBytes) (o : Options) → AreOpt
 in_range value o h = record {
   size = number_in_range _ _ _ (value SIZE.0.now) h.size;
   knobs = knobs_in_range value o.knobs h.knobs;
+  solve = (number_in_range _ _ _ (value SOLVE.0.now) h.solve).1;
+  look = (number_in_range _ _ _ (value LOOK.0.now) h.look).1;
   steps = (number_in_range _ _ _ (value STEPS.0.now) h.steps).1;
   budget = (number_in_range _ _ _ (value BUDGET.0.now) h.budget).0;
 }

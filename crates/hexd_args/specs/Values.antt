@@ -10,7 +10,7 @@ use Rattle.hexd_args.specs.declared.settings.Mode.TheVariants.{Bench, Solve}
 use Rattle.hexd_args.specs.declared.settings.Options.{Options}
 use Rattle.hexd_args.specs.declared.table.TheConstants.{SIZE, WORKERS, PLAYOUTS, SEED, WORDS}
 use Rattle.hexd_args.specs.declared.table.TheConstants.{EXPAND, WEIGHT, HSEARCH, STEPS, BUDGET}
-use Rattle.hexd_args.specs.declared.table.TheConstants.{TRACE}
+use Rattle.hexd_args.specs.declared.table.TheConstants.{SOLVE, LOOK, TRACE}
 
 -- the word that names a mode
 abbrev pub mode_word : Mode → TextBytes
@@ -37,6 +37,8 @@ pub record AreOptions (value : TextBytes → Option TextBytes) (o : Options) : T
   pub size : IsNumberFrom SIZE.2 SIZE.3 (value SIZE.0.now) o.size
   pub knobs : AreKnobs value o.knobs
   pub hsearch : value HSEARCH.0.now ≡ Some (switch_word o.hsearch)
+  pub solve : IsNumberFrom SOLVE.2 SOLVE.3 (value SOLVE.0.now) o.solve
+  pub look : IsNumberFrom LOOK.2 LOOK.3 (value LOOK.0.now) o.look
   pub steps : IsNumberFrom STEPS.2 STEPS.3 (value STEPS.0.now) o.steps
   pub budget : IsNumberFrom BUDGET.2 BUDGET.3 (value BUDGET.0.now) o.budget
   pub trace : value TRACE.now ≡ o.trace
@@ -46,5 +48,7 @@ pub record AreOptions (value : TextBytes → Option TextBytes) (o : Options) : T
 pub record OptionsInRange (o : Options) : Type 0 where
   pub size : (SIZE.2 ≤ o.size) × (o.size ≤ SIZE.3)
   pub knobs : AreInRange o.knobs
+  pub solve : o.solve ≤ SOLVE.3
+  pub look : o.look ≤ LOOK.3
   pub steps : o.steps ≤ STEPS.3
   pub budget : BUDGET.2 ≤ o.budget

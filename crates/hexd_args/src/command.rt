@@ -5,7 +5,8 @@ ghost use Rattle.clap.specs.Words.{app_of};
 ghost use Rattle.hexd_args.specs.Table.{hexd_app};
 
 use crate::table::{
-    BUDGET, EXPAND, HSEARCH, PLAYOUTS, SEED, SIZE, STEPS, TRACE, WEIGHT, WORDS, WORKERS,
+    BUDGET, EXPAND, HSEARCH, LOOK, PLAYOUTS, SEED, SIZE, SOLVE, STEPS, TRACE, WEIGHT, WORDS,
+    WORKERS,
 };
 use clap::Command;
 use option_words::command_with;
@@ -25,6 +26,8 @@ pub fn command<'a>(alloc: Global) -> Result<Command<'a>, AllocError>
         (EXPAND.0, Some(EXPAND.1)),
         (WEIGHT.0, Some(WEIGHT.1)),
         (HSEARCH.0, Some(HSEARCH.1)),
+        (SOLVE.0, Some(SOLVE.1)),
+        (LOOK.0, Some(LOOK.1)),
         (STEPS.0, Some(STEPS.1)),
         (BUDGET.0, Some(BUDGET.1)),
         (TRACE, None),

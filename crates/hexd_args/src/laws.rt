@@ -7,7 +7,8 @@
 ghost use Rattle.std.specs.Prelude.{◌≡◌, codes};
 
 use crate::table::{
-    BUDGET, EXPAND, HSEARCH, PLAYOUTS, SEED, SIZE, STEPS, TRACE, WEIGHT, WORDS, WORKERS,
+    BUDGET, EXPAND, HSEARCH, LOOK, PLAYOUTS, SEED, SIZE, SOLVE, STEPS, TRACE, WEIGHT, WORDS,
+    WORKERS,
 };
 
 /// A law, with nothing to run: each option has this name, this default, and this range.
@@ -27,6 +28,10 @@ pub fn options_are_those_of_the_manual()
     ensures weight { (WEIGHT.0.now ≡ codes "weight") × (WEIGHT.1.now ≡ codes "180") }
     ensures weight_range { (WEIGHT.2 ≡ 0) × (WEIGHT.3 ≡ 1024) }
     ensures hsearch { (HSEARCH.0.now ≡ codes "hsearch") × (HSEARCH.1.now ≡ codes "on") }
+    ensures solve { (SOLVE.0.now ≡ codes "solve") × (SOLVE.1.now ≡ codes "0") }
+    ensures solve_range { (SOLVE.2 ≡ 0) × (SOLVE.3 ≡ 10000000) }
+    ensures look { (LOOK.0.now ≡ codes "look") × (LOOK.1.now ≡ codes "0") }
+    ensures look_range { (LOOK.2 ≡ 0) × (LOOK.3 ≡ 1000000) }
     ensures steps { (STEPS.0.now ≡ codes "steps") × (STEPS.1.now ≡ codes "10000") }
     ensures steps_range { (STEPS.2 ≡ 0) × (STEPS.3 ≡ 1000000) }
     ensures budget { (BUDGET.0.now ≡ codes "budget") × (BUDGET.1.now ≡ codes "1000000") }

@@ -11,7 +11,8 @@ ghost use Rattle.hexd_args.specs.declared.settings.Options.{Options};
 use crate::command::command;
 use crate::modes::mode;
 use crate::table::{
-    BUDGET, EXPAND, HSEARCH, PLAYOUTS, SEED, SIZE, STEPS, TRACE, WEIGHT, WORDS, WORKERS,
+    BUDGET, EXPAND, HSEARCH, LOOK, PLAYOUTS, SEED, SIZE, SOLVE, STEPS, TRACE, WEIGHT, WORDS,
+    WORKERS,
 };
 use crate::{Memory, Options};
 use clap::ArgMatches;
@@ -76,6 +77,8 @@ fn with_trace(matches: &ArgMatches<'_>, trace: Option<Word>) -> Option<Options>
         size: found_number(matches, SIZE)?,
         knobs: knobs(matches)?,
         hsearch: switch(matches.get_str(HSEARCH.0))?,
+        solve: found_number(matches, SOLVE)?,
+        look: found_number(matches, LOOK)?,
         steps: found_number(matches, STEPS)?,
         budget: found_long_number(matches, BUDGET)?,
         trace,

@@ -37,6 +37,10 @@ pub struct Options {
     pub knobs: Knobs,
     /// Whether `HSEARCH` is on.
     pub hsearch: bool,
+    /// `SOLVE`.
+    pub solve: u32,
+    /// `LOOK`.
+    pub look: u32,
     /// `STEPS`.
     pub steps: u32,
     /// `BUDGET`.

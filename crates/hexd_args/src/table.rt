@@ -31,6 +31,12 @@ pub const WEIGHT: NumberOption = ("weight", "180", 0, MOST_WEIGHT);
 /// `--hsearch`: whether connections are searched for, `on` or `off`; and its default.
 pub const HSEARCH: (&'static str, &'static str) = ("hsearch", "on");
 
+/// `--solve`: how many positions a move's search for a certificate may enter; with 0 there is none.
+pub const SOLVE: NumberOption = ("solve", "0", 0, 10_000_000);
+
+/// `--look`: how many nodes the look-ahead of a move may judge; with 0 there is none.
+pub const LOOK: NumberOption = ("look", "0", 0, 1_000_000);
+
 /// `--steps`: how many steps the schedule of a simulation has.
 pub const STEPS: NumberOption = ("steps", "10000", 0, 1_000_000);
 

@@ -182,7 +182,7 @@ pub queue_take : {Q : Type 0} (f : Q → List ℕ) (queues : List Q) (k : ℕ) (
     → f old ≡ option_to_list r ++ f q → len ≡ length (f old) → (IsSome r ↔ (0 < len))
     → ¬ (get_or (map f queues) k [] ≡ [])
     → concat (map f queues) ≡ v → concat (map f (set queues k q)) ≡ w
-    → MatchOption r (v ≡ []) (λ n. IsWith w n v)
+    → MatchOption r ((v ≡ []) × (w ≡ [])) (λ n. IsWith w n v)
 queue_take f queues k q old None len v w l e p o s x g h =
     absurd (x (get_or-map f queues k old [] l ∙ (ap f e ∙ nothing (f old) len o none)))
   where

@@ -1,5 +1,5 @@
 -- The lists of the full entries that were taken.
-use Rattle.std.proofs.Common.{◌≡◌, ℕ, ◌<◌, ◌≤◌, ◌⊎◌, ◌∷◌, [], ◌++◌, Bool, true, false, List, Some}
+use Rattle.std.proofs.Common.{◌≡◌, ℕ, ◌+◌, ◌<◌, ◌≤◌, ◌⊎◌, ◌∷◌, [], ◌++◌, Bool, true, false, List, Some}
 use Rattle.std.proofs.Common.{zero, suc, length, get_or, map, set, refl, sym, ◌∙◌, ap, subst, inl}
 use Rattle.std.proofs.Common.{inr, arith}
 use Rattle.std.specs.List.{Contains, slice_get}
@@ -99,7 +99,7 @@ enlisted_semi v n a k = record {
 -- ---- the lists of a report
 
 -- nothing was taken
-pub listed_first : (d : StoreData) (lists : List (List ℕ)) → length lists ≡ element_count d.elements
+pub listed_first : (d : StoreData) (lists : List (List ℕ)) → element_count d.elements ≤ length lists
     → ((u i : ℕ) → ¬ (Lists lists u i)) → AreListed d [] lists
 listed_first d lists e n = record {
   count = e;
@@ -120,7 +120,7 @@ pub listed_more : (d : StoreData) (taken : List Bool) (v w : List (List ℕ)) (n
     → AreListed d taken v → IsEnlisted v n a w → slice_get d.entries n ≡ Some a
     → AreListed d (set taken n true) w
 listed_more d taken v w n a l e h = record {
-  count = e.count ∙ l.count;
+  count = omega (arith, e.count, l.count);
   within = λ u i c. elim (e.others u i c) [ inl o ↦ l.within u i o | inr q ↦ subst (λ z. z < length d.entries) (sym q) (slice_get_within d.entries n a h) ];
   listed = λ i x u b g f m. elim (cases_eq i n) [
     | inl q ↦
@@ -137,7 +137,7 @@ pub listed_stays : (d f : StoreData) (taken : List Bool) (lists : List (List ℕ
 listed_stays d f taken lists l g s =
     let m : length d.entries ≤ length f.entries = grown_longer d f g in
     record {
-      count = l.count ∙ ap element_count (sym g.elements);
+      count = subst (λ v. element_count v ≤ length lists) (sym g.elements) l.count;
       within = λ u i c. let o : i < length d.entries = l.within u i c in omega arith;
       listed = λ i x u a h q k. elim (cases_lt i (length taken)) [
         | inl o ↦ l.listed i x u a (entry_was d f i a g (omega arith) h) q k
@@ -154,6 +154,30 @@ none_more f [] q n e zero i c = contains_none i (subst (λ xs. Contains xs i) e 
 none_more f [] q n e (suc u) i c = contains_none i c
 none_more f (p ∷ lists) q n e zero i c = n 0 i c
 none_more f (p ∷ lists) q n e (suc u) i c = none_more f lists q (λ z j k. n (suc z) j k) e u i c
+
+-- the lists below k are empty, and the list at k was emptied
+pub none_below_more : {Q : Type 0} (f : Q → List ℕ) (lists : List Q) (k : ℕ) (q : Q)
+    → ((u i : ℕ) → u < k → ¬ (Lists (map f lists) u i)) → k < length lists → f q ≡ [] → (u i : ℕ)
+    → u < k + 1 → ¬ (Lists (map f (set lists k q)) u i)
+none_below_more f lists k q n l e u i m c =
+    let w : map f (set lists k q) ≡ set (map f lists) k (f q) = map-set f lists k q in
+    let s : length (map f lists) ≡ length lists = length-map lists f in
+    let d : Contains (get_or (set (map f lists) k (f q)) u []) i
+    = subst (λ v. Contains (get_or v u []) i) w c in
+    elim (cases_eq u k) [
+      | inl z ↦ contains_none i (subst (λ v. Contains v i) (ap (λ y. get_or (set (map f lists) k (f q)) y []) z ∙ (get_or-set_same (map f lists) k (f q) [] (omega arith) ∙ e)) d)
+      | inr z ↦ n u i (omega arith) (subst (λ v. Contains v i) (get_or-set_other (map f lists) k u (f q) [] z) d)
+    ]
+
+-- no list is left
+pub none_at_all : {Q : Type 0} (f : Q → List ℕ) (lists : List Q) (k : ℕ)
+    → ((u i : ℕ) → u < k → ¬ (Lists (map f lists) u i)) → length lists ≤ k → (u i : ℕ)
+    → ¬ (Lists (map f lists) u i)
+none_at_all f lists k n l u i c = elim (cases_lt u k) [
+  | inl m ↦ n u i m c
+  | inr m ↦ let s : length (map f lists) ≡ length lists = length-map lists f in
+      contains_none i (subst (λ v. Contains v i) (get_or_past (map f lists) u [] (omega arith)) c)
+]
 
 pub none_first : {Q : Type 0} (f : Q → List ℕ) (lists : List Q) → lists ≡ [] → (u i : ℕ)
     → ¬ (Lists (map f lists) u i)
@@ -173,10 +197,11 @@ pub list_there : {Q : Type 0} (f : Q → List ℕ) (lists : List Q) (d : StoreDa
     (u : ℕ) → AreListed d taken (map f lists) → u < element_count d.elements → u < length lists
 list_there f lists d taken u a l
     = let s : length (map f lists) ≡ length lists = length-map lists f in
-    let e : length (map f lists) ≡ element_count d.elements = a.count in omega arith
+    let e : element_count d.elements ≤ length (map f lists) = a.count in omega arith
 
 -- no list has a number
 pub lists_first : {Q : Type 0} (f : Q → List ℕ) (lists : List Q) (d : StoreData)
-    → length lists ≡ element_count d.elements → ((u i : ℕ) → ¬ (Lists (map f lists) u i))
+    → element_count d.elements ≤ length lists → ((u i : ℕ) → ¬ (Lists (map f lists) u i))
     → AreListed d [] (map f lists)
-lists_first f lists d e n = listed_first d (map f lists) (length-map lists f ∙ e) n
+lists_first f lists d e n = listed_first d (map f lists)
+    (subst (λ v. element_count d.elements ≤ v) (sym (length-map lists f)) e) n

@@ -1,5 +1,5 @@
 -- The full entries that were taken, listed for each element. Only private clauses cite this.
-use Rattle.std.specs.Prelude.{◌≡◌, ℕ, ◌⊎◌, ◌<◌, Bool, List, [], ◌∷◌, ◌++◌, Some, length}
+use Rattle.std.specs.Prelude.{◌≡◌, ℕ, ◌⊎◌, ◌<◌, ◌≤◌, Bool, List, [], ◌∷◌, ◌++◌, Some, length}
 use Rattle.std.specs.Prelude.{slice_index_or, slice_set}
 use Rattle.std.specs.List.{Contains, slice_get}
 use Rattle.hex_board.specs.Elements.{element_count}
@@ -19,7 +19,7 @@ Lists lists u i = Contains (slice_index_or lists u []) i
 -- each element has a list, of numbers of entries; each full entry that was taken is listed for both
 -- of its elements
 pub record AreListed (d : StoreData) (taken : List Bool) (lists : List (List ℕ)) : Type 0 where
-  pub count : length lists ≡ element_count d.elements
+  pub count : element_count d.elements ≤ length lists
   pub within : (u i : ℕ) → Lists lists u i → i < length d.entries
   pub listed : (i x u : ℕ) (a : Entry) → slice_get d.entries i ≡ Some a → IsFullOf a x u
       → IsMarked taken i → Lists lists u i

@@ -11,16 +11,20 @@
 //! let edges = report.store().held(0, 1, Kind::Semi);
 //! ```
 //!
+//! Who needs one report after the other makes the next in the memory of the one before it
+//! ([`Report::again`]): `report = report.again(alloc, board, colour)?`.
+//!
 //! **What is proved.** A report's store is that of the board and the player. Each entry is valid,
 //! follows from earlier ones and is true. Each pair that lies side by side has an entry with the
 //! empty carrier, and what the rules of AND, over a middle that holds no edge, and of OR give of
 //! its entries is settled (specs/Closed.antt). The definition knows neither rounds nor an order.
 //!
-//! **What is only tested, or not said.** That [`connect`] gets its memory; that it takes small
-//! carriers first, and its speed; which entries a report has beyond what closed says. H-search does
-//! not find every connection.
+//! **What is only tested, or not said.** That [`connect`] and [`Report::again`] get their memory,
+//! and make reports with the same entries in the same order; that they take small carriers first,
+//! and their speed; which entries a report has beyond what closed says. H-search does not find every
+//! connection.
 //!
-//! **Limits.** Those of `conn_store`. Only [`connect`] takes memory.
+//! **Limits.** Those of `conn_store`. Only [`connect`] and [`Report::again`] take memory.
 //!
 //! Source: Anshelevich's H-search.
 //!
@@ -40,7 +44,7 @@
 //! - Ends, kinds and carriers are tested before an entry is made of them. Whether the pair is full,
 //!   or has a smaller carrier, the store tests on the entry, once for all rules.
 //! - A report makes its lists at its beginning: one of waiting entries for each size of a carrier,
-//!   and one of taken entries for each element. That is little beside what follows.
+//!   and one of taken entries for each element. It keeps them, empty or not, for the next report.
 #![tactic(auto)]
 
 mod combining;

@@ -1,6 +1,6 @@
 //! The full entries that were taken, listed for each element.
 
-ghost use Rattle.std.specs.Prelude.{◌≡◌, ℕ, ◌<◌, [], IfOk, OnOk, length, map, slice_index_or};
+ghost use Rattle.std.specs.Prelude.{◌≡◌, ℕ, ◌<◌, ◌≤◌, [], OnOk, length, map, slice_index_or};
 ghost use Rattle.std.specs.List.{Contains};
 ghost use Rattle.hsearch.specs.Listed.{IsEnlisted, IsListedAt};
 
@@ -10,17 +10,31 @@ use std::alloc::{AllocError, Global};
 // The room that a list has at first: most grow to some ten numbers, and few make it grow.
 const ROOM: usize = 16;
 
-/// So many empty lists.
-pub(crate) fn empty_lists(alloc: Global, count: u32) -> Result<Vec<Vec<u32>>, AllocError>
-    ensures count { IfOk result (λ lists. length lists.items ≡ count) }
-    ensures empty { IfOk result (λ lists. (u i : ℕ)
-        → ¬ (Contains (slice_index_or (map (λ q. q.items) lists.items) u []) i)) }
+/// Empties the lists, and makes more if they are less than so many.
+pub(crate) fn clear_lists(
+    alloc: Global,
+    lists: &mut Vec<Vec<u32>>,
+    count: u32,
+) -> Result<(), AllocError>
+    ensures count { OnOk result (count ≤ length lists.new.items) }
+    ensures empty { OnOk result ((u i : ℕ)
+        → ¬ (Contains (slice_index_or (map (λ q. q.items) lists.new.items) u []) i)) }
 {
-    let mut lists = Vec::new(alloc);
-    'elements: for _element in 0..count {
+    empty_lists(lists);
+    'elements: for _element in lists.len()..count as usize {
         lists.push(Vec::with_capacity(alloc, ROOM)?)?;
     }
-    Ok(lists)
+    Ok(())
+}
+
+// Takes all numbers from the lists.
+fn empty_lists(lists: &mut Vec<Vec<u32>>)
+    ensures { (u i : ℕ)
+        → ¬ (Contains (slice_index_or (map (λ q. q.items) lists.new.items) u []) i) }
+{
+    'lists: for place in 0..lists.len() {
+        lists[place].clear();
+    }
 }
 
 /// The numbers that are listed for an element.

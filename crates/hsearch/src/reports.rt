@@ -1,11 +1,11 @@
 //! Reports: stores that are closed under the four rules, and the search that makes them.
 
-ghost use Rattle.std.specs.Prelude.{◌≡◌, ◌≤◌, IfOk, OnOk, length};
+ghost use Rattle.std.specs.Prelude.{◌≡◌, ◌≤◌, [], IfOk, OnOk, length};
 ghost use Rattle.hsearch.specs.Closed.{IsReport};
 ghost use Rattle.hsearch.specs.Taken.{IsGrown};
 
 use super::combining::{add_near, combine};
-use super::listing::{empty_lists, enlist};
+use super::listing::{clear_lists, enlist};
 use super::refusals::Memory;
 use super::waiting::Waiting;
 use conn_store::Store;
@@ -14,13 +14,18 @@ use hex_cells::Colour;
 use std::alloc::{AllocError, Global};
 use std::marker::Model;
 
-/// A player's entries on a board, closed under the four rules.
+/// A player's entries on a board, closed under the four rules, and the memory of the search that
+/// made it.
 #[derive(Drop)]
 pub struct Report {
     store: Store,
+    waiting: Waiting,
+    taken: Vec<bool>,
+    lists: Vec<Vec<u32>>,
 }
 
 impl Model for Report {
+    ghost use Rattle.std.specs.Prelude.{◌≡◌, []};
     ghost use Rattle.conn_store.specs.Stores.{StoreData};
     ghost use Rattle.hsearch.specs.Closed.{IsReport};
 
@@ -28,7 +33,7 @@ impl Model for Report {
 
     ghost view = { λ r. r.store };
 
-    ghost invariant = { λ r. IsReport r.store };
+    ghost invariant = { λ r. IsReport r.store × (r.waiting ≡ []) };
 }
 
 /// The report of a player on a board, by H-search. It begins with the pairs that lie side by side,
@@ -41,12 +46,29 @@ pub fn connect(alloc: Global, board: &Board, colour: Colour) -> Result<Report, M
         (λ r. r.elements ≡ record { board = board.now; player = colour }) }
     ensures report { IfOk result IsReport }
 {
-    let mut store = Store::make(alloc, board, colour)?;
+    let store = Store::make(alloc, board, colour)?;
+    let waiting = Waiting::make(alloc)?;
+    closed(alloc, store, waiting, Vec::new(alloc), Vec::new(alloc))
+}
+
+// The report that begins with a store without entries, in the memory of these marks and lists,
+// whatever they hold.
+fn closed(
+    alloc: Global,
+    mut store: Store,
+    mut waiting: Waiting,
+    mut taken: Vec<bool>,
+    mut lists: Vec<Vec<u32>>,
+) -> Result<Report, Memory>
+    requires store { store.entries ≡ [] }
+    requires waiting { waiting ≡ [] }
+    ensures elements { IfOk result (λ r. r.elements ≡ store.elements) }
+    ensures report { IfOk result IsReport }
+{
     add_near(&mut store);
-    let mut waiting = Waiting::make(alloc)?;
     waiting.put_from(store.entries(), 0)?;
-    let mut taken = Vec::new(alloc);
-    let mut lists = empty_lists(alloc, store.elements().count())?;
+    taken.clear();
+    clear_lists(alloc, &mut lists, store.elements().count())?;
     'entries: while let Some(number) = waiting.take() {
         let count = store.entries().len();
         combine(&mut store, number, &taken, &lists);
@@ -57,7 +79,12 @@ pub fn connect(alloc: Global, board: &Board, colour: Colour) -> Result<Report, M
         let entry = entries[number as usize];
         enlist(&mut lists, number, &entry)?;
     }
-    Ok(Report { store })
+    Ok(Report {
+        store,
+        waiting,
+        taken,
+        lists,
+    })
 }
 
 // Makes the marks so many; those that come are false.
@@ -73,6 +100,19 @@ fn grow(marks: &mut Vec<bool>, count: usize) -> Result<(), AllocError>
 }
 
 impl Report {
+    /// The same as [`connect`], in the memory of this report, which is gone then. It takes more
+    /// only if this search needs more than each before it in this memory.
+    ///
+    /// It refuses only if memory runs out.
+    pub fn again(self, alloc: Global, board: &Board, colour: Colour) -> Result<Report, Memory>
+        ensures elements { IfOk result
+            (λ r. r.elements ≡ record { board = board.now; player = colour }) }
+        ensures report { IfOk result IsReport }
+    {
+        let store = self.store.again(board, colour)?;
+        closed(alloc, store, self.waiting, self.taken, self.lists)
+    }
+
     /// The store of the report: sound and closed.
     pub fn store(&self) -> &Store
         ensures value { result.now ≡ self.now }

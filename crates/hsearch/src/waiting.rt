@@ -69,7 +69,8 @@ impl Waiting {
 
     /// Takes out a number with the least size, the one that came first.
     pub(crate) fn take(&mut self) -> Option<u32>
-        ensures { MatchOption result (self.old ≡ []) (λ number. IsWith self.new number self.old) }
+        ensures { MatchOption result ((self.old ≡ []) × (self.new ≡ []))
+            (λ number. IsWith self.new number self.old) }
     {
         let place = first_filled(&self.queues, self.least);
         self.least = place;

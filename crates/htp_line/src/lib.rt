@@ -24,7 +24,8 @@
 //! **What is only tested, or not said.** That memory suffices: `make`, `read_line`, `id_text` and,
 //! if no room is left, the two writers may answer [`Memory`], which no clause ties to anything.
 //!
-//! **Limits.** A line that is too long is not kept. `push`, `finish` and `line` take no memory.
+//! **Limits.** A line that is too long is not kept; [`limits_are_those_of_the_manual`] has the
+//! limit as a number. `push`, `finish` and `line` take no memory.
 //!
 //! **Why so.**
 //!
@@ -38,12 +39,14 @@
 
 mod answer;
 mod bytes;
+mod limits;
 mod request;
 mod splitter;
 mod want;
 
 pub use answer::{FRAME, ID_LIMIT, id_text, push_failure, push_success};
 pub use bytes::{Args, Bytes};
+pub use limits::limits_are_those_of_the_manual;
 pub use request::{Parsed, Request, read_line, read_number};
 pub use splitter::{Fed, LINE_LIMIT, Splitter};
 pub use want::Memory;

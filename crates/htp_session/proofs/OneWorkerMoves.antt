@@ -35,15 +35,10 @@ use Rattle.htp_session.proofs.OneWorkerLoads.{SameLoads}
 
 -- ---- one turn
 
--- the option of connections is off
-without : (options : Options) (t : TurnData) → HasOneWorker options
-    → IsGood options.knobs options.hsearch t → IsGood options.knobs false t
-without options t one g = subst (λ h. IsGood options.knobs h t) one.no_connections g
-
 -- two good turns that are a conversation's next are played and reported alike
 same_move : (options : Options) (at : EngineState) (colour : Colour) (t u : TurnData)
-    → HasOneWorker options → IsGood options.knobs options.hsearch t
-    → IsGood options.knobs options.hsearch u → is_next at colour t ≡ true
+    → HasOneWorker options → IsGood options.knobs options.means t
+    → IsGood options.knobs options.means u → is_next at colour t ≡ true
     → is_next at colour u ≡ true
     → turned at colour u ≡ turned at colour t
 same_move options at colour t u one g h e f =
@@ -56,9 +51,7 @@ same_move options at colour t u one g h e f =
     ∙ sym (same_colour u.player colour q'.0) in
     let number : t.number ≡ u.number = eqb-true t.number at.turns p'.1
     ∙ sym (eqb-true u.number at.turns q'.1) in
-    let mine = without options t one g in
-    let other = without options u one h in
-    let same = same_turn options.knobs t u one.workers mine other board player number in
+    let same = same_turn options.knobs options.means t u one.workers one.no_connections g h board player number in
     sym (λ i. record {
       reply = Done (vertex_of (board_of at.game).size (same.0 i));
       after = record at { game = with_step at.game (step_of colour (Stone (same.0 i))); turns = at.turns + 1; last = Some (same.2 i) };

@@ -60,5 +60,6 @@ ThroughAlike Alike = (start : EngineState) → (one other : Supply) → Alike st
 -- a good turn that is a conversation's next has a legal stone on its cell
 abbrev pub SearchedMovesAreLegal : Type 0
 SearchedMovesAreLegal = (at : EngineState) → (colour : Colour) → (turn : TurnData)
-    → IsGood at.options.knobs at.options.hsearch turn → is_next at colour turn ≡ true
+    → IsGood at.options.knobs at.options.means turn
+    → is_next at colour turn ≡ true
     → is_legal at.game (step_of colour (Stone turn.cell)) ≡ true

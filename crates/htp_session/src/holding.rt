@@ -8,14 +8,10 @@ ghost use Rattle.hex_devices.specs.declared.stops.Stop.{Stop};
 ghost use Rattle.htp_session.specs.Calls.Holding.{Passes};
 
 use hex_devices::{Devices, WriteFault};
-use hex_io::{Link, Shelf};
+use hex_io::{Link, MOST_HELD, Shelf};
 use hex_plan::Archive;
 use search_team::Gate;
 use std::thread::Threads;
-
-/// So many bytes are held at most before the next line is looked at: as many as a pipe takes, so
-/// that one who reads along needn't wait for more.
-const MOST_HELD: usize = 65_536;
 
 /// Gives all that is held. Nothing is held then.
 pub fn give_held<L: Link, F: Shelf, A: Archive, R: Threads + Sync, G: Gate + Sync>(
@@ -32,7 +28,7 @@ pub fn give_held<L: Link, F: Shelf, A: Archive, R: Threads + Sync, G: Gate + Syn
     Ok(())
 }
 
-/// Gives all that is held, if that is much. At most `MOST_HELD` bytes are held then.
+/// Gives all that is held, if that is more than `MOST_HELD` bytes, and otherwise nothing.
 pub fn relieve<L: Link, F: Shelf, A: Archive, R: Threads + Sync, G: Gate + Sync>(
     devices: &mut Devices<'_, '_, '_, '_, L, F, A, R, G>,
     held: &mut Vec<u8>,
@@ -42,6 +38,7 @@ pub fn relieve<L: Link, F: Shelf, A: Archive, R: Threads + Sync, G: Gate + Sync>
     ensures part { OnErr result
         (GaveProperPart devices.old.link devices.new.link held.old.items) }
     ensures few { OnOk result (length held.new.items ≤ MOST_HELD) }
+    ensures waits { length held.old.items ≤ MOST_HELD → held.new.items ≡ held.old.items }
     ensures shelf_and_archive { shelf_and_archive devices.new ≡ shelf_and_archive devices.old }
     ensures counts { CountsOnly Stop.WriteFault devices.old devices.new result }
 {

@@ -29,9 +29,9 @@
 //! out, which no clause ties to a refused growth. That after a fault nothing is read or written.
 //! That searches run in the threads of the runtime, and pass the gate.
 //!
-//! **Limits.** At most 65,536 bytes of answers are held when a line is looked at (a clause of
-//! `relieve` in src/holding.rt), and then its answer; so no memory grows with the input but the
-//! game's own.
+//! **Limits.** At most [`MOST_HELD`](hex_io::MOST_HELD) bytes of answers are held when a line is
+//! looked at (a clause of `relieve` in src/holding.rt), and then its answer; so no memory grows
+//! with the input but the game's own.
 //!
 //! **Why so.**
 //!

@@ -17,11 +17,11 @@ use Rattle.arena_rule.proofs.Before.{opening_blocks}
 use Rattle.arena_rule.proofs.Changes.{whole-after, put-answered}
 use Rattle.arena_rule.proofs.Law.{answers}
 use Rattle.walker.specs.Machine.{op_of, next}
-use Rattle.walker.specs.Belongs.{Belongs}
+use Rattle.walker.specs.Belongs.{Belongs, MakesStep}
 use Rattle.walker.specs.declared.machine.Walker.{Walker}
 use Rattle.walker.proofs.Fitting.{fits}
 use Rattle.walker.proofs.Keeps.{keeps}
-use Rattle.lone_worker.specs.Alone.{MakesStep, RunsAlone, EndsAsSequence}
+use Rattle.lone_worker.specs.Alone.{RunsAlone, EndsAsSequence}
 use Rattle.lone_worker.proofs.Walkers.{steps-at-leaf}
 use Rattle.lone_worker.proofs.Courses.{Lone}
 use Rattle.lone_worker.proofs.Begins.{lone-begins}

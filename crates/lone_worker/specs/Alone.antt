@@ -6,19 +6,9 @@ use Rattle.tree_words.specs.Sequence.{seq_of}
 use Rattle.tree_words.specs.Trees.{IsTreeOf}
 use Rattle.tree_words.specs.declared.steps.Op.TheVariants.{Done}
 use Rattle.arena_rule.specs.Views.{SeatView, opening_view}
-use Rattle.arena_rule.specs.Afters.{after}
-use Rattle.arena_rule.specs.Answers.{MayAnswer}
-use Rattle.walker.specs.Machine.{op_of, next}
-use Rattle.walker.specs.Belongs.{Belongs}
+use Rattle.walker.specs.Machine.{op_of}
+use Rattle.walker.specs.Belongs.{Belongs, MakesStep}
 use Rattle.walker.specs.declared.machine.Walker.{Walker}
-
--- The walker w with its view v makes its next step. The answer is one that the step may give, and
--- so the word that stands in the view's copy.
-pub record MakesStep (w : Walker) (v : SeatView) (later : Walker) (view : SeatView) : Type 0 where
-  pub answer : ℕ
-  pub may : MayAnswer v (op_of w) answer
-  pub walker_is : later ≡ next w answer
-  pub view_is : view ≡ after v (op_of w) answer
 
 -- After n steps the walker is w and its view v, if it began as a walker to whom the opening view
 -- belongs, with a view whose copy of the words is the opening words, whatever else that knew.

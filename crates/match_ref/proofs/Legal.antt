@@ -17,14 +17,15 @@ use Rattle.hex_game.specs.Games.{AreLegal, GameData, board_of, is_legal, is_over
 use Rattle.hex_game.specs.declared.moves.Move.TheVariants.{Stone}
 use Rattle.hex_game.proofs.Over.{not_over}
 use Rattle.tree_words.specs.declared.settings.Knobs.{Knobs}
+use Rattle.hex_plan.specs.declared.settings.Means.{Means}
 use Rattle.match_ref.specs.declared.played.Played.{Played}
 use Rattle.match_ref.specs.Matches.{IsMatchGame, IsTurnCell, PlaysOn, first_game, game_with}
-use Rattle.match_ref.specs.Matches.{side_knobs, turns_made}
+use Rattle.match_ref.specs.Matches.{side_knobs, side_means, side_of, turns_made}
 
-pub turn_is_legal : (knobs : Knobs) (game : GameData) (mover : Colour) (turns cell : ℕ)
-    → IsTurnCell knobs (board_of game) mover turns cell
+pub turn_is_legal : (knobs : Knobs) (means : Means) (game : GameData) (mover : Colour) (turns cell : ℕ)
+    → IsTurnCell knobs means (board_of game) mover turns cell
     → is_legal game (step_of mover (Stone cell)) ≡ true
-turn_is_legal knobs game mover turns cell h =
+turn_is_legal knobs means game mover turns cell h =
     let now : Position = board_of game in
     let empty : is_empty_at now cell ≡ true
     = subst (λ (p : Position). is_empty_at p cell ≡ true) h.owed.board
@@ -44,7 +45,8 @@ StepsGoOn m i game mover =
 
 pub step_more : (m : Match) (i : ℕ) (game : GameData) (mover : Colour) (cell : ℕ)
     → StepsGoOn m i game mover → may_move (board_of game) ≡ true
-    → IsTurnCell (side_knobs m i mover) (board_of game) mover (turns_made game) cell
+    → IsTurnCell (side_knobs m i mover) (side_means (side_of m i mover)) (board_of game) mover
+    (turns_made game) cell
     → StepsGoOn m i (with_step game (step_of mover (Stone cell))) (other_of mover)
 step_more m i game mover cell goes may turn = (
   goes.0,
@@ -85,7 +87,7 @@ legal_in m i game mover (p ∷ ps) [] step rest h e =
     let same : step ≡ p = cc in
     let here : is_legal game p ≡ true
     = subst (λ s. is_legal game s ≡ true) (sym h.2)
-    (turn_is_legal (side_knobs m i mover) game mover (turns_made game) h.1 h.3) in
+    (turn_is_legal (side_knobs m i mover) (side_means (side_of m i mover)) game mover (turns_made game) h.1 h.3) in
     subst (λ s. is_legal (record { start = game.start; steps = game.steps ++ [] }) s ≡ true)
     (sym same)
     (subst (λ l. is_legal (record { start = game.start; steps = l }) p ≡ true)

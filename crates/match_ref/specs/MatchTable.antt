@@ -6,6 +6,7 @@ use Rattle.option_words.specs.Grammar.{Form, OptionTable}
 use Rattle.option_words.specs.Values.{TextBytes}
 use Rattle.match_ref.specs.declared.table.TheConstants.{SIZE, GAMES, THREADS, SEED, RECORDS}
 use Rattle.match_ref.specs.declared.table.TheConstants.{PLAYOUTS, WORDS, EXPAND, WEIGHT}
+use Rattle.match_ref.specs.declared.table.TheConstants.{SOLVE, LOOK}
 
 -- the options of the match, each with its default
 abbrev pub match_table : OptionTable
@@ -25,6 +26,8 @@ side_table = both_sides PLAYOUTS.0.now PLAYOUTS.1.now PLAYOUTS.2.now
     ++ both_sides WORDS.0.now WORDS.1.now WORDS.2.now
     ++ both_sides EXPAND.0.now EXPAND.1.now EXPAND.2.now
     ++ both_sides WEIGHT.0.now WEIGHT.1.now WEIGHT.2.now
+    ++ both_sides SOLVE.0.now SOLVE.1.now SOLVE.2.now
+    ++ both_sides LOOK.0.now LOOK.1.now LOOK.2.now
 
 abbrev pub match_form : Form
 match_form = record { required = false; options = match_table ++ side_table }

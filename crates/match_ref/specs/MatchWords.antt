@@ -1,5 +1,6 @@
 -- What the words of hexmatch ask for.
-use Rattle.std.specs.Prelude.{◌≡◌, Bool, false, true, List, Option, Some, None, if◌then◌else◌}
+use Rattle.std.specs.Prelude.{◌≡◌, ℕ, Bool, false, true, List, Option, Some, None, if◌then◌else◌}
+use Rattle.std.specs.Borrow.{Bor}
 use Rattle.option_words.specs.Grammar.{Saying, word_name}
 use Rattle.option_words.specs.Lines.{IsLine, value_in}
 use Rattle.option_words.specs.Values.{IsNumberFrom, TextBytes, switch_word}
@@ -7,11 +8,22 @@ use Rattle.match_ref.specs.MatchTable.{match_form}
 use Rattle.match_ref.specs.declared.settings.Side.{Side}
 use Rattle.match_ref.specs.declared.table.TheConstants.{SIZE, GAMES, THREADS, SEED, RECORDS}
 use Rattle.match_ref.specs.declared.table.TheConstants.{PLAYOUTS, WORDS, EXPAND, WEIGHT}
+use Rattle.match_ref.specs.declared.table.TheConstants.{SOLVE, LOOK}
 use Rattle.match_ref.specs.declared.words.MatchWords.{MatchWords}
 
 -- the name that an option of the sides has for side a, or for side b
 abbrev pub name_for : (is_b : Bool) (a b : TextBytes) → TextBytes
 name_for is_b a b = if is_b then b else a
+
+-- an option of the sides: its names for side a and for side b, its default, and its least and its
+-- greatest number
+abbrev pub SideOption : Type 0
+SideOption = Bor TextBytes × Bor TextBytes × Bor TextBytes × ℕ × ℕ
+
+-- the value of the option's name for side a, or for side b, is this number
+abbrev pub IsSideNumber : (TextBytes → Option TextBytes) → Bool → SideOption → ℕ → Type 0
+IsSideNumber value is_b option n =
+    IsNumberFrom option.3 option.4 (value (name_for is_b option.0.now option.1.now)) n
 
 -- Side a, or side b, plays with what these values of its names say.
 pub record IsSaidSide (value : TextBytes → Option TextBytes) (is_b : Bool) (s : Side) : Type 0 where
@@ -23,6 +35,10 @@ pub record IsSaidSide (value : TextBytes → Option TextBytes) (is_b : Bool) (s 
       (value (name_for is_b EXPAND.0.now EXPAND.1.now)) s.expand
   pub weight_is : IsNumberFrom WEIGHT.3 WEIGHT.4
       (value (name_for is_b WEIGHT.0.now WEIGHT.1.now)) s.weight
+  pub solve_is : IsNumberFrom SOLVE.3 SOLVE.4
+      (value (name_for is_b SOLVE.0.now SOLVE.1.now)) s.solve
+  pub look_is : IsNumberFrom LOOK.3 LOOK.4
+      (value (name_for is_b LOOK.0.now LOOK.1.now)) s.look
 
 -- The match is what these values of the names say, and no positional word is said.
 pub record AreMatchWords (value : TextBytes → Option TextBytes) (w : MatchWords) : Type 0 where

@@ -1,6 +1,6 @@
 -- Match games: what is played in a match between two sides.
 use Rattle.std.specs.Prelude.{◌≡◌, ℕ, ◌+◌, ◌*◌, ◌/◌, ◌%◌, ◌^◌, ◌<◌, ◌≤◌, ◌==◌, Bool, true, false}
-use Rattle.std.specs.Prelude.{List, [], ◌∷◌, length, if◌then◌else◌}
+use Rattle.std.specs.Prelude.{◌||◌, List, [], ◌∷◌, length, if◌then◌else◌, nat_lt}
 use Rattle.hex_cells.specs.Colours.{other_of}
 use Rattle.hex_cells.specs.declared.colours.Colour.{Colour}
 use Rattle.hex_cells.specs.declared.colours.Colour.TheVariants.{Black, White}
@@ -14,6 +14,7 @@ use Rattle.tree_words.specs.Settings.{AreInRange}
 use Rattle.tree_words.specs.declared.settings.Knobs.{Knobs}
 use Rattle.hex_plan.specs.Openings.{may_move}
 use Rattle.hex_plan.specs.Turns.{TurnData}
+use Rattle.hex_plan.specs.declared.settings.Means.{Means}
 use Rattle.turn_search.specs.Owed.{IsOwed}
 use Rattle.match_ref.specs.declared.settings.Match.{Match}
 use Rattle.match_ref.specs.declared.settings.Side.{Side}
@@ -46,12 +47,26 @@ side_knobs m i player = record {
   weight = (side_of m i player).weight;
 }
 
--- the cell is that of a turn that a session with these knobs, which looks for no connections, owes
--- on the board now with this player to move, after so many turns
-pub record IsTurnCell (knobs : Knobs) (now : Position) (mover : Colour)
+-- by what means a side chooses its moves: it looks for connections if it asks the solver or looks
+-- ahead
+abbrev pub side_means : Side → Means
+side_means s = record {
+  hsearch = nat_lt 0 s.solve || nat_lt 0 s.look;
+  solve = s.solve;
+  look = s.look;
+}
+
+-- neither side asks the solver or looks ahead
+pub record SearchAlone (m : Match) : Type 0 where
+  pub a : (m.a.solve ≡ 0) × (m.a.look ≡ 0)
+  pub b : (m.b.solve ≡ 0) × (m.b.look ≡ 0)
+
+-- the cell is that of a turn that a session with these knobs and means owes on the board now with
+-- this player to move, after so many turns
+pub record IsTurnCell (knobs : Knobs) (means : Means) (now : Position) (mover : Colour)
     (turns cell : ℕ) : Type 0 where
   pub turn : TurnData
-  pub owed : IsOwed knobs false now mover turns turn
+  pub owed : IsOwed knobs means now mover turns turn
   pub cell_is : turn.cell ≡ cell
 
 -- how many turns the mover made before, when the players take turns: half of the steps so far
@@ -64,7 +79,8 @@ abbrev pub PlaysOn : Match → ℕ → GameData → Colour → List Step → Typ
 PlaysOn m i game mover [] = may_move (board_of game) ≡ false
 PlaysOn m i game mover (step ∷ steps) =
     (may_move (board_of game) ≡ true) × (cell : ℕ) × (step ≡ step_of mover (Stone cell))
-    × IsTurnCell (side_knobs m i mover) (board_of game) mover (turns_made game) cell
+    × IsTurnCell (side_knobs m i mover) (side_means (side_of m i mover)) (board_of game) mover
+    (turns_made game) cell
     × PlaysOn m i (with_step game step) (other_of mover) steps
 
 -- the empty board of the match, without steps

@@ -4,7 +4,9 @@ ghost use Rattle.std.specs.Prelude.{◌≡◌, IfOk};
 ghost use Rattle.clap.specs.Words.{app_of};
 ghost use Rattle.match_ref.specs.MatchTable.{match_app};
 
-use super::table::{EXPAND, GAMES, PLAYOUTS, RECORDS, SEED, SIZE, THREADS, WEIGHT, WORDS};
+use super::table::{
+    EXPAND, GAMES, LOOK, PLAYOUTS, RECORDS, SEED, SIZE, SOLVE, THREADS, WEIGHT, WORDS,
+};
 use clap::Command;
 use option_words::command_with;
 use std::alloc::{AllocError, Global};
@@ -28,6 +30,10 @@ pub fn command<'a>(alloc: Global) -> Result<Command<'a>, AllocError>
         (EXPAND.1, Some(EXPAND.2)),
         (WEIGHT.0, Some(WEIGHT.2)),
         (WEIGHT.1, Some(WEIGHT.2)),
+        (SOLVE.0, Some(SOLVE.2)),
+        (SOLVE.1, Some(SOLVE.2)),
+        (LOOK.0, Some(LOOK.2)),
+        (LOOK.1, Some(LOOK.2)),
     ];
     command_with(alloc, false, &options)
 }

@@ -9,7 +9,7 @@ ghost use Rattle.hex_game.specs.declared.moves.TheConstants.{MOST_STEPS};
 ghost use Rattle.hex_plan.specs.Openings.{may_move};
 ghost use Rattle.tree_words.specs.Settings.{AreInRange};
 ghost use Rattle.match_ref.specs.Matches.{IsMatch, IsMatchGame, IsTurnCell, is_side_a, side_knobs};
-ghost use Rattle.match_ref.specs.Matches.{turns_made};
+ghost use Rattle.match_ref.specs.Matches.{side_means, side_of, turns_made};
 ghost use Rattle.match_ref.specs.declared.settings.TheConstants.{MOST_GAMES};
 
 use super::passes::GatePass;
@@ -19,7 +19,7 @@ use super::settings::{Match, Side};
 use hex_board::Board;
 use hex_cells::{Cell, Colour};
 use hex_game::{Game, Move};
-use hex_plan::may_move;
+use hex_plan::{Means, may_move};
 use search_team::OpenGate;
 use std::alloc::{AllocError, Global};
 use std::thread::Threads;
@@ -40,7 +40,18 @@ pub fn is_side_a(number: usize, player: Colour) -> bool
     }
 }
 
-// With what the side searches that plays this colour in the game with this number.
+// The side that plays this colour in the game with this number.
+fn side_of(setup: &Match, number: u32, player: Colour) -> Side
+    ensures { result ≡ side_of setup.now number player }
+{
+    if is_side_a(number as usize, player) {
+        setup.a
+    } else {
+        setup.b
+    }
+}
+
+// With what this side searches, if it plays this colour in the game with this number.
 fn side_knobs(setup: &Match, number: u32, player: Colour) -> Knobs
     requires setup { IsMatch setup.now }
     requires few { number < MOST_GAMES }
@@ -65,6 +76,17 @@ fn side_knobs(setup: &Match, number: u32, player: Colour) -> Knobs
     }
 }
 
+// By what means a side chooses its moves.
+fn side_means(side: &Side) -> Means
+    ensures { result ≡ side_means side.now }
+{
+    Means {
+        hsearch: 0 < side.solve || 0 < side.look,
+        solve: side.solve,
+        look: side.look,
+    }
+}
+
 // How many turns the mover made before: the players take turns.
 fn turns_made(game: &Game) -> u64
     ensures { result ≡ turns_made game.now }
@@ -77,16 +99,17 @@ fn turn_cell<R: Threads + Sync>(
     rt: &R,
     alloc: Global,
     knobs: &Knobs,
+    means: Means,
     board: &Board,
     mover: Colour,
     turns: u64,
 ) -> Result<Cell, Memory>
     requires may { may_move board.now ≡ true }
     requires ranges { AreInRange knobs.now }
-    ensures turn { IfOk result (IsTurnCell knobs.now board.now mover turns) }
+    ensures turn { IfOk result (IsTurnCell knobs.now means board.now mover turns) }
     ensures on_board { IfOk result (λ cell. cell < board.now.size * board.now.size) }
 {
-    let turn = decided_turn(rt, alloc, board, mover, turns, knobs, false, &OpenGate)?;
+    let turn = decided_turn(rt, alloc, board, mover, turns, knobs, means, &OpenGate)?;
     Ok(turn.cell())
 }
 
@@ -131,8 +154,9 @@ pub fn play_game<R: Threads + Sync>(
     let mut mover = Colour::Black;
     'moves: while may_move(game.board()) {
         let knobs = side_knobs(setup, number, mover);
+        let means = side_means(&side_of(setup, number, mover));
         let turns = turns_made(&game);
-        let cell = turn_cell(rt, alloc, &knobs, game.board(), mover, turns)?;
+        let cell = turn_cell(rt, alloc, &knobs, means, game.board(), mover, turns)?;
         put_stone(&mut game, mover, cell);
         mover = mover.other();
     }

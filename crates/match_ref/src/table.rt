@@ -37,3 +37,9 @@ pub const EXPAND: SideNumber = ("expand-a", "expand-b", "8", 1, MOST_EXPAND);
 
 /// `--weight-a`, `--weight-b`: how much exploration weighs in the side's scores.
 pub const WEIGHT: SideNumber = ("weight-a", "weight-b", "180", 0, MOST_WEIGHT);
+
+/// `--solve-a`, `--solve-b`: how many positions the side's search for a certificate may enter.
+pub const SOLVE: SideNumber = ("solve-a", "solve-b", "0", 0, 10_000_000);
+
+/// `--look-a`, `--look-b`: how many nodes the side's look-ahead may judge.
+pub const LOOK: SideNumber = ("look-a", "look-b", "0", 0, 1_000_000);

@@ -5,7 +5,7 @@ ghost use Rattle.clap.specs.Words.{first_value, found_of};
 ghost use Rattle.option_words.specs.Values.{IsNumberFrom};
 ghost use Rattle.hex_cells.specs.declared.board_size.Size.{Size};
 ghost use Rattle.match_ref.specs.Matches.{IsMatch};
-ghost use Rattle.match_ref.specs.MatchWords.{AreMatchWords, IsSaidSide, AskFor, name_for};
+ghost use Rattle.match_ref.specs.MatchWords.{AreMatchWords, IsSaidSide, IsSideNumber, AskFor};
 ghost use Rattle.match_ref.specs.declared.settings.Side.{Side};
 ghost use Rattle.match_ref.specs.declared.words.MatchWords.{MatchWords};
 
@@ -13,7 +13,7 @@ use super::command::command;
 use super::refusals::Memory;
 use super::settings::{Match, Side};
 use super::table::{
-    EXPAND, GAMES, PLAYOUTS, RECORDS, SEED, SIZE, SideNumber, THREADS, WEIGHT, WORDS,
+    EXPAND, GAMES, LOOK, PLAYOUTS, RECORDS, SEED, SIZE, SOLVE, SideNumber, THREADS, WEIGHT, WORDS,
 };
 use clap::ArgMatches;
 use hex_cells::Size;
@@ -82,14 +82,15 @@ fn side(found: &ArgMatches<'_>, is_b: bool) -> Option<Side>
         words: side_number(found, is_b, WORDS)?,
         expand: side_number(found, is_b, EXPAND)?,
         weight: side_number(found, is_b, WEIGHT)?,
+        solve: side_number(found, is_b, SOLVE)?,
+        look: side_number(found, is_b, LOOK)?,
     })
 }
 
 // The number that is said of this option for side a, or for side b.
 fn side_number(found: &ArgMatches<'_>, is_b: bool, option: SideNumber) -> Option<u32>
     ensures { (n : ℕ) → (result ≡ Some n)
-        ↔ IsNumberFrom option.entry.3 option.entry.4 (first_value (found_of found.now)
-        (name_for is_b option.entry.0.now option.entry.1.now)) n }
+        ↔ IsSideNumber (first_value (found_of found.now)) is_b option.entry n }
 {
     let name = if is_b { option.1 } else { option.0 };
     small_number(found.get_str(name), option.3, option.4)

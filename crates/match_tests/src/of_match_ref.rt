@@ -1,103 +1,14 @@
-//! Games that meet at a gate, rows of runs, and writes that fail.
+//! Rows of runs, and writes that fail. Games that meet at a gate have a file of their own.
 
-ghost use Rattle.std.specs.Prelude.{IfSome};
-ghost use Rattle.match_ref.specs.Matches.{IsMatch};
+mod gates;
 
-use hex_cells::{Colour, Size};
+use hex_cells::Colour;
 use hex_io::{MemLink, Word};
-use match_ref::{
-    MOST_GAMES, MOST_THREADS, Match, Played, Side, Steps, game_line, play_match, run_match,
-};
+use match_ref::{Played, Steps, game_line, run_match};
 use search_team::{CountingGate, Gate, OpenGate};
 use std::alloc::Global;
-use std::sync::atomic::{AtomicU32, Ordering};
 use std::test::Fail;
-use std::thread::{self, Threads};
-
-// A match of so many games of one stone in so many threads, if they are in their ranges.
-fn small_match(games: u32, threads: u32) -> Option<Match>
-    ensures { IfSome result IsMatch }
-{
-    let size = Size::of(1)?;
-    if !(1..=MOST_GAMES).contains(&games) || !(1..=MOST_THREADS).contains(&threads) {
-        return None;
-    }
-    let side = Side {
-        playouts: 1,
-        words: 65_536,
-        expand: 8,
-        weight: 180,
-    };
-    Some(Match {
-        size,
-        games,
-        threads,
-        seed: 0,
-        a: side,
-        b: side,
-    })
-}
-
-/// `gate-match`: games 0 and 1 meet, whatever the numbers of games and threads are, and each of the
-/// first three passes once.
-#[test]
-fn games_meet_at_the_gate(rt: HostRuntime) -> Result<(), Fail> {
-    for (games, threads, third) in [(2, 2, 0), (4, 2, 1), (12, 8, 1), (3, 64, 1)] {
-        let gate = CountingGate::new(2);
-        let setup = small_match(games, threads).ok_or("a match")?;
-        let played = play_match(&rt, rt.alloc(), &setup, &gate)?;
-        assert_eq!(rt; played.len(), games as usize);
-        assert_eq!(rt; gate.counts(), [1, 1, third], "{games} {threads}");
-        assert!(rt; !gate.was_missed(), "{games} {threads}");
-    }
-    Ok(())
-}
-
-/// How often a game at a crowded gate looks whether more have come.
-const MOST_LOOKS: u32 = 20_000;
-
-/// A gate that counts how many games are at it at once. Each stays until more are there than are to
-/// be, or for some looks.
-#[derive(Drop)]
-struct CrowdGate {
-    inside: AtomicU32,
-    most: AtomicU32,
-    threads: u32,
-}
-
-impl Gate for CrowdGate {
-    fn pass(&self, _game: u32) {
-        let others = self.inside.fetch_add(1, Ordering::SeqCst);
-        self.most
-            .fetch_max(others.saturating_add(1), Ordering::SeqCst);
-        for _ in 0..MOST_LOOKS {
-            if self.most.load(Ordering::SeqCst) > self.threads {
-                break;
-            }
-            thread::yield_now();
-        }
-        self.inside.fetch_sub(1, Ordering::SeqCst);
-    }
-}
-
-/// `match-crowd`: no more games are played at once than there are threads. A match with a thread
-/// for each game would have more of them at the gate.
-#[test]
-fn games_keep_to_the_threads(rt: HostRuntime) -> Result<(), Fail> {
-    for (games, threads) in [(4, 1), (6, 2), (12, 3), (16, 5)] {
-        let gate = CrowdGate {
-            inside: AtomicU32::new(0),
-            most: AtomicU32::new(0),
-            threads,
-        };
-        let setup = small_match(games, threads).ok_or("a match")?;
-        let played = play_match(&rt, rt.alloc(), &setup, &gate)?;
-        assert_eq!(rt; played.len(), games as usize);
-        let most = gate.most.load(Ordering::SeqCst);
-        assert!(rt; 0 < most && most <= threads, "{games} {threads}");
-    }
-    Ok(())
-}
+use std::thread::Threads;
 
 // What a run left: its status, what was given, and the line for the errors.
 #[derive(Drop)]

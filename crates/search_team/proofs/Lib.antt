@@ -3,8 +3,9 @@
 --    `search_alone` (seq_search) promises.
 -- 2. A worker ends: specs/WorkLeft.antt (what it has left to do), proofs/Numbers and Falls. What a
 --    step keeps is walker's `op` and `got`, and tree_rule's `act`.
--- 3. The team, by halves: proofs/Halves.
--- 4. The tree in a cut area is that of the whole shape: proofs/Narrow, by laws of tree_words
+-- 3. What a worker holds back: specs/Debts.antt (its table has what its seat owes), proofs/Debts.
+-- 4. The team, by halves: proofs/Halves.
+-- 5. The tree in a cut area is that of the whole shape: proofs/Narrow, by laws of tree_words
 --    (proofs/Areas).
 
 -- Steps of this crate's own proofs.
@@ -13,6 +14,7 @@ mod Falls
 mod Going
 mod Looks
 mod SeenAdds
+mod Debts
 mod Halves
 mod ChildLooks
 mod NodeWrites

@@ -13,11 +13,10 @@ use Rattle.walker.specs.declared.stages.Stage.TheVariants.{Scanning}
 use Rattle.walker.specs.Scans.{ScanData, CanScan, scan_next}
 use Rattle.walker.specs.Machine.{op_at, op_of, next_at, next, with_scan}
 use Rattle.walker.specs.Choosing.{MayChoose, MayScan, CanGoAt}
-use Rattle.walker.specs.Belongs.{Belongs, Stands, AtChild}
+use Rattle.walker.specs.Belongs.{Belongs, Stands, AtChild, MakesStep}
 use Rattle.walker.proofs.Fitting.{fits}
 use Rattle.walker.proofs.Keeps.{keeps}
 use Rattle.walker.proofs.GoingOn.{can-go}
-use Rattle.lone_worker.specs.Alone.{MakesStep}
 use Rattle.search_team.specs.WorkLeft.{work_left}
 use Rattle.search_team.specs.Runs.{HasRun}
 use Rattle.search_team.proofs.Going.{is-done, not-done, step-falls, run-begins}

@@ -1,5 +1,5 @@
 -- A search in a shape whose area ends earlier gives the tree of the whole shape.
-use Rattle.std.proofs.Common.{◌≡◌, ℕ, ◌≤◌, sym, ap, ◌∙◌, subst}
+use Rattle.std.proofs.Common.{◌≡◌, ◌≤◌, sym, ap, ◌∙◌, subst}
 use Rattle.std.specs.Prelude.{min}
 use Rattle.tree_words.specs.Settings.{Setting}
 use Rattle.tree_words.specs.Words.{end_of, next_in}
@@ -18,4 +18,5 @@ pub whole_tree : (s n : Setting) (closed whole : ClosedTree) → IsNarrower n s 
 whole_tree s n closed whole narrower shape tree next words inside one =
     let workers : n.knobs.workers ≡ 1 = ap (λ (t : Setting). t.knobs.workers) narrower.area ∙ one in
     subst (λ w. IsTreeOf s w (seq_of s).0) (sym words)
-    (widened_tree s n closed.words narrower (subst (λ (t : Setting). min (next_in closed.words) (end_of s) ≤ end_of t) shape inside) (next workers) (tree workers))
+    (widened_tree s n closed.words narrower (subst (λ (t : Setting). min (next_in closed.words)
+    (end_of s) ≤ end_of t) shape inside) (next workers) (tree workers))

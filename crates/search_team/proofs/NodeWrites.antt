@@ -23,11 +23,10 @@ use Rattle.walker.specs.declared.stages.Stage.TheVariants.{Writing, Publishing}
 use Rattle.walker.specs.Machine.{state_in, own_block, word_of_block, op_at, op_of, next_at, next}
 use Rattle.walker.specs.Machine.{written}
 use Rattle.walker.specs.NewNodes.{NewNodesData, AreNodesOf, nodes_after, with_nodes_at, with_nodes}
-use Rattle.walker.specs.Belongs.{Belongs, Stands, AtWrite}
+use Rattle.walker.specs.Belongs.{Belongs, Stands, AtWrite, MakesStep}
 use Rattle.walker.proofs.Fitting.{fits}
 use Rattle.walker.proofs.Keeps.{keeps}
 use Rattle.walker.proofs.GoingOn.{can-write}
-use Rattle.lone_worker.specs.Alone.{MakesStep}
 use Rattle.search_team.specs.WorkLeft.{work_left}
 use Rattle.search_team.specs.Runs.{HasRun}
 use Rattle.search_team.proofs.Going.{is-done, not-done, step-falls, run-begins, run-steps}
@@ -47,12 +46,16 @@ value-at w n = word_of_block (own_block w) n
 
 inside : (w : Walker) (n : ℕ) → n < size_below (state_in w) → after-words w n ≡ at-word w n
 inside w n l =
-    ap (λ (t : Bool). cond t (record w { at = w.start + n }) (record w { stage = Publishing; at = w.node + 1 })) (lt-ltb (w.start + n) (w.start + size_below (state_in w)) (omega (arith, l)))
+    ap (λ (t : Bool). cond t (record w { at = w.start + n })
+    (record w { stage = Publishing; at = w.node + 1 }))
+    (lt-ltb (w.start + n) (w.start + size_below (state_in w)) (omega (arith, l)))
 
 past : (w : Walker) (n : ℕ) → size_below (state_in w) ≤ n
     → after-words w n ≡ record w { stage = Publishing; at = w.node + 1 }
 past w n l =
-    ap (λ (t : Bool). cond t (record w { at = w.start + n }) (record w { stage = Publishing; at = w.node + 1 })) (le-ltb (w.start + n) (w.start + size_below (state_in w)) (omega (arith, l)))
+    ap (λ (t : Bool). cond t (record w { at = w.start + n })
+    (record w { stage = Publishing; at = w.node + 1 }))
+    (le-ltb (w.start + n) (w.start + size_below (state_in w)) (omega (arith, l)))
 
 -- a word was written: the walker z is `later`, and the view u
 pub record HasWritten (z : Walker) (v : SeatView) (later : Walker) (u : SeatView) : Type 0 where

@@ -3,6 +3,8 @@ use Rattle.std.proofs.Common.{◌≡◌, ◌≢◌, ℕ, ◌<◌, List, [], ◌�
 use Rattle.tree_words.specs.declared.steps.Op.{Op}
 use Rattle.tree_words.specs.declared.steps.Op.TheVariants.{Add}
 use Rattle.arena_rule.specs.Views.{SeatView}
+use Rattle.std.proofs.Common.{Bool}
+use Rattle.arena_rule.specs.Owing.{IsSeenWord}
 use Rattle.arena_rule.specs.Adds.{CountAdd}
 use Rattle.arena_rule.specs.Fits.{FitsStep}
 use Rattle.arena_rule.specs.Answers.{MayAnswer}
@@ -13,11 +15,10 @@ use Rattle.walker.specs.declared.stages.Stage.{Stage}
 use Rattle.walker.specs.declared.stages.Stage.TheVariants.{Seeing}
 use Rattle.walker.specs.Climbs.{add_op, adds_after}
 use Rattle.walker.specs.Machine.{next, with_climb}
-use Rattle.walker.specs.Belongs.{Belongs, Stands, AtSeen}
+use Rattle.walker.specs.Belongs.{Belongs, Stands, AtSeen, MakesStep}
 use Rattle.walker.proofs.Fitting.{fits}
 use Rattle.walker.proofs.Keeps.{keeps}
 use Rattle.walker.proofs.GoingOn.{can-go}
-use Rattle.lone_worker.specs.Alone.{MakesStep}
 use Rattle.search_team.specs.WorkLeft.{work_left}
 use Rattle.search_team.specs.Runs.{HasRun}
 use Rattle.search_team.proofs.Going.{not-done, step-falls, run-begins}
@@ -89,3 +90,14 @@ added w (a ∷ c) v ne b op x d u e may d-is u-is =
     subst (λ (r : List CountAdd). HasAdded w (a ∷ c) v r u) (sym d-is)
     (subst (λ (t : SeatView). HasAdded w (a ∷ c) v c t) (sym (u-is ∙ ap (λ (o : Op). after v o x) e))
     (added-now w a c v b x (subst (λ (o : Op). MayAnswer v o x) e may)))
+
+-- the word of an add of a climb is the seen word of a known node
+pub seen-add : (w : Walker) (c : List CountAdd) (v : SeatView) → Belongs (with_climb w c) v
+    → (word : ℕ) (won : Bool) → add_op c ≡ Add word won → IsSeenWord v word
+seen-add w [] v b word won e = absurd (cc)
+seen-add w (a ∷ c) v b word won e
+    = subst (IsSeenWord v) (ap add-word e) (b.stands.seen a (0, omega arith, refl))
+  where
+    add-word : Op → ℕ
+    add-word (Add i t) = i
+    add-word op = 0

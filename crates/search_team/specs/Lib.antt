@@ -1,3 +1,4 @@
 pub mod WorkLeft
 pub mod Runs
 pub mod Works
+pub mod Debts

@@ -1,5 +1,6 @@
 //! The looks at a block's header, in a loop of their own.
 
+ghost use Rattle.std.specs.Prelude.{◌≡◌};
 ghost use Rattle.walker.specs.Belongs.{Belongs};
 ghost use Rattle.tree_rule.specs.Seats.{IsOf};
 ghost use Rattle.search_team.specs.WorkLeft.{work_left};
@@ -15,6 +16,7 @@ pub(crate) fn look_at_header(tree: &Tree, seat: &mut TreeSeat, walker: &mut Walk
     requires own { IsOf tree.now seat.old }
     requires belongs { Belongs walker.old seat.old.view }
     ensures own { IsOf tree.now seat.new }
+    ensures owed { seat.new.owed ≡ seat.old.owed }
     ensures run { HasRun walker.old seat.old.view walker.new seat.new.view }
 {
     'looks: while walker.is_at_header() {

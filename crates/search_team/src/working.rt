@@ -4,10 +4,11 @@ ghost use Rattle.std.specs.Prelude.{◌≡◌};
 ghost use Rattle.walker.specs.Belongs.{Belongs};
 ghost use Rattle.tree_rule.specs.Seats.{IsOf};
 ghost use Rattle.search_team.specs.WorkLeft.{work_left};
-ghost use Rattle.search_team.specs.Works.{IsFresh, IsDone, WorksAsSequence};
+ghost use Rattle.search_team.specs.Works.{IsFresh, IsDone};
 
 use super::climbing::make_seen_adds;
 use super::heading::look_at_header;
+use super::holding::{Sums, give_all};
 use super::scanning::look_at_children;
 use super::stepping::step;
 use super::writing::write_new_nodes;
@@ -17,22 +18,23 @@ use tree_words::{Op, Shape};
 use walker::Walker;
 
 /// Lets one worker work until its draw answers that no playout is left. The seat is of this tree
-/// of this shape, stands for one worker and has drawn nothing. If he is the only one and the
-/// seat's copy of the words was the opening words, the copy then shows the tree of the sequential
-/// search.
+/// of this shape, stands for one worker, has drawn nothing, owes nothing and has no copy of the
+/// words. The worker holds adds to seen words with many visits back, and gives them all before he
+/// ends.
 ///
 /// It takes no memory and never waits. The gate is passed as its trait says.
 pub fn work<G: Gate>(tree: &Tree, seat: &mut TreeSeat, shape: &Shape, worker: u32, gate: &G)
     requires shape { tree.now.shape ≡ shape.now }
     requires fresh { IsFresh tree.now seat.old 1 }
     ensures done { IsDone tree.now seat.new 1 }
-    ensures sequence { WorksAsSequence shape.now seat.old.view seat.new.view }
 {
     let mut walker = Walker::new(shape);
+    let mut sums = Sums::none(shape.knobs().workers);
     let mut passed = false;
     'steps: loop {
         let op = walker.op();
         if op == Op::Done {
+            give_all(tree, seat, &mut sums);
             return;
         }
         if !passed && is_add(op) {
@@ -45,7 +47,7 @@ pub fn work<G: Gate>(tree: &Tree, seat: &mut TreeSeat, shape: &Shape, worker: u3
         write_new_nodes(tree, seat, &mut walker);
         look_at_header(tree, seat, &mut walker);
         look_at_children(tree, seat, &mut walker);
-        make_seen_adds(tree, seat, &mut walker);
+        make_seen_adds(tree, seat, &mut walker, &mut sums);
     }
 }
 

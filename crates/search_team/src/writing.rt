@@ -21,6 +21,7 @@ fn write_node(tree: &Tree, seat: &mut TreeSeat, walker: &Walker, nodes: &mut New
     requires more { nodes.old.cells ≢ [] }
     requires belongs { Belongs (with_nodes walker.now nodes.old) seat.old.view }
     ensures own { IsOf tree.now seat.new }
+    ensures owed { seat.new.owed ≡ seat.old.owed }
     ensures nodes { AreNodesOf walker.now nodes.new }
     ensures run { HasRun (with_nodes walker.now nodes.old) seat.old.view
         (with_nodes walker.now nodes.new) seat.new.view }
@@ -42,6 +43,7 @@ pub(crate) fn write_new_nodes(tree: &Tree, seat: &mut TreeSeat, walker: &mut Wal
     requires own { IsOf tree.now seat.old }
     requires belongs { Belongs walker.old seat.old.view }
     ensures own { IsOf tree.now seat.new }
+    ensures owed { seat.new.owed ≡ seat.old.owed }
     ensures run { HasRun walker.old seat.old.view walker.new seat.new.view }
 {
     let Some(mut nodes) = walker.new_nodes() else {

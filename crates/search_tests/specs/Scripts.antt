@@ -7,11 +7,19 @@ use Rattle.play_out.specs.Fills.{filled, playout_of}
 use Rattle.tree_words.specs.Settings.{Setting}
 use Rattle.tree_words.specs.declared.steps.Op.{Op}
 use Rattle.tree_words.specs.declared.steps.Op.TheVariants.{Done}
-use Rattle.arena_rule.specs.Views.{SeatView}
+use Rattle.arena_rule.specs.Views.{SeatView, HasDrawnNothing}
 use Rattle.arena_rule.specs.Lookups.{known_link}
 use Rattle.arena_rule.specs.Fits.{FitsStep, CanJoin}
 use Rattle.arena_rule.specs.Afters.{after}
-use Rattle.tree_rule.specs.Seats.{SeatData}
+use Rattle.arena_rule.specs.IsView.{IsView}
+use Rattle.tree_rule.specs.Seats.{TreeData, SeatData, IsOf}
+
+-- the seat is of the tree, stands for one worker, and has drawn nothing
+pub record IsNew (tree : TreeData) (seat : SeatData) : Type 0 where
+  pub own : IsOf tree seat
+  pub width : seat.view.width ≡ 1
+  pub nothing : HasDrawnNothing seat.view
+  pub order : IsView seat.view
 
 -- an empty board of one cell, for two workers and two playouts
 abbrev pub one_cell : Setting

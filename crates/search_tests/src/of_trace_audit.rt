@@ -59,7 +59,7 @@ fn one_playout(alloc: Global) -> Result<Turn, Fail> {
         own: None,
         other: None,
     };
-    Ok(Turn::searched(closed, 0, planned))
+    Ok(Turn::searched(closed, 0, planned, None))
 }
 
 // The trace of one playout, byte by byte.

@@ -4,6 +4,7 @@ mod certificates;
 mod failures;
 mod gates;
 mod long_inputs;
+mod proofs_played;
 mod records;
 mod runs;
 mod searches;

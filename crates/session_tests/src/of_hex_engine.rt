@@ -16,6 +16,7 @@ fn failures_have_their_numbers(rt: HostRuntime) {
         (Fail::ReadFault, 8),
         (Fail::NoSearch, 9),
         (Fail::NoCert, 10),
+        (Fail::NoLook, 11),
     ];
     for (fail, number) in table {
         assert_eq!(rt; fail as u8, number);

@@ -33,10 +33,14 @@ htp --size=5 --|0|5
 --weight=1024 htp|6|1024
 --hsearch=off htp|7|0
 --hsearch on htp|7|1
---steps=0 htp|8|0
---steps=1000000 htp|8|1000000
---budget=1 htp|9|1
---budget=18446744073709551615 htp|9|18446744073709551615";
+--solve=0 htp|8|0
+--solve=10000000 htp|8|10000000
+--look=0 htp|9|0
+--look=1000000 htp|9|1000000
+--steps=0 htp|10|0
+--steps=1000000 htp|10|1000000
+--budget=1 htp|11|1
+--budget=18446744073709551615 htp|11|18446744073709551615";
 
 // Lines that ask for a trace, and its name.
 static TRACED: &str = "--trace t htp|t
@@ -74,6 +78,7 @@ htp --workers 0
 --expand=0 htp
 --expand=1001 htp
 --weight=1025 htp
+--solve=10000001 htp
 --steps=1000001 htp
 --budget=0 htp
 --budget=18446744073709551616 htp
@@ -90,6 +95,7 @@ htp --seed -1
 --size=0x5 htp
 --size=5.0 htp
 --size=٣ htp
+--look=1000001 htp
 --hsearch=ON htp
 --hsearch=yes htp
 --hsearch= htp
@@ -155,7 +161,7 @@ fn read(alloc: Global, line: &str) -> Result<CommandLine, Memory> {
     CommandLine::read(alloc, words_of(alloc, line)?)
 }
 
-fn numbers(options: &Options) -> [u64; 10] {
+fn numbers(options: &Options) -> [u64; 12] {
     [
         options.size as u64,
         options.knobs.workers as u64,
@@ -165,14 +171,18 @@ fn numbers(options: &Options) -> [u64; 10] {
         options.knobs.expand as u64,
         options.knobs.weight as u64,
         options.hsearch as u64,
+        options.solve as u64,
+        options.look as u64,
         options.steps as u64,
         options.budget,
     ]
 }
 
 // The defaults with one number at its place.
-fn expected(place: usize, number: u64) -> [u64; 10] {
-    let mut numbers = [11, 1, 10_000, 0, 4_194_304, 8, 180, 1, 10_000, 1_000_000];
+fn expected(place: usize, number: u64) -> [u64; 12] {
+    let mut numbers = [
+        11, 1, 10_000, 0, 4_194_304, 8, 180, 1, 0, 0, 10_000, 1_000_000,
+    ];
     if let Some(here) = numbers.get_mut(place) {
         *here = number;
     }

@@ -8,7 +8,7 @@ use hex_cells::Size;
 use hex_devices::{AnswerError, Devices, InputAnswer, InputError, InputReader, Stop, answer_input};
 use hex_engine::Options;
 use hex_io::{MemLink, MemShelf};
-use hex_plan::NoArchive;
+use hex_plan::{Means, NoArchive};
 use htp_session::converse;
 use search_team::OpenGate;
 use std::alloc::{AllocError, Global};
@@ -31,7 +31,7 @@ fn options() -> Options
     };
     Options {
         knobs,
-        hsearch: false,
+        means: Means::none(),
     }
 }
 

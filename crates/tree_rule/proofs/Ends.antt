@@ -25,7 +25,24 @@ use Rattle.arena_rule.proofs.Law.{closes, closes-walks}
 use Rattle.arena_rule.proofs.Before.{Before}
 use Rattle.arena_rule.proofs.AnswersBlocks.{known_shown}
 use Rattle.arena_rule.proofs.LastSeat.{value}
+use Rattle.arena_rule.specs.Owing.{Debtor, OwingRule, view_of, views_of}
+use Rattle.arena_rule.proofs.OwingSeats.{rule-last}
+use Rattle.atomic_table.proofs.Lists.{at_map}
 use Rattle.tree_rule.specs.Ends.{AreShown, AreRecords, IsSameBehind, EndsWith}
+
+-- with one seat left, which stands for all workers, of whom all have ended, and owes nothing, the
+-- arena rule holds of the words themselves
+pub last-rule : (s : Setting) (words : List ℕ) (seats : List Debtor) → OwingRule s words seats
+    → (id : ℕ) (d : Debtor) → get_elem? seats id ≡ some d → d.owed ≡ []
+    → d.view.width ≡ s.knobs.workers → HasEnded d.view → Rule s words (views_of seats)
+last-rule s words seats r id d at free width ended =
+    let many = r.rule.state.setting.ranges.workers.0 in
+    rule-last s words seats r id d at free
+    (record {
+      seat = record { at = at_map view_of seats id d at; live = omega (arith, width, many) };
+      width = width;
+      ended = ended;
+    })
 
 -- NEXT never lies before the end of the root's block
 next-behind : (s : Setting) (bs : List LinkedBlock) (words : List ℕ) (views : List SeatView)

@@ -9,7 +9,7 @@ use lib.ListN.{get_elem?}
 use prog.Atomic.{either}
 use mir.Val.{bool_byte}
 use Rattle.atomic_table.specs.Table.{Me, step, stepped, keeps, Allows, Splits, Joins}
-use Rattle.atomic_table.proofs.Lists.{at_set}
+use Rattle.atomic_table.proofs.Lists.{at_set, at_map}
 use Rattle.atomic_table.specs.declared.shared.Seat.{Seat}
 use Rattle.atomic_table.specs.Seated.{TableId}
 use Rattle.tree_words.specs.Settings.{Setting, IsSetting}
@@ -20,52 +20,65 @@ use Rattle.tree_words.specs.declared.steps.Op.TheVariants.{Draw, Look, Claim, Pu
 use Rattle.arena_rule.specs.Views.{SeatView, spent_view, opening_view}
 use Rattle.arena_rule.specs.Lookups.{is_known}
 use Rattle.arena_rule.specs.Fits.{FitsStep, CanSplit, CanJoin}
-use Rattle.arena_rule.specs.Afters.{word_of, put, answer_of, after, kept_part, given_part, joined}
+use Rattle.arena_rule.specs.Afters.{word_of, put, answer_of, kept_part, given_part, joined}
 use Rattle.arena_rule.specs.Answers.{MayAnswer}
 use Rattle.arena_rule.specs.IsView.{IsView}
-use Rattle.arena_rule.specs.Rule.{Rule, words_after, views_after, views_split}
+use Rattle.arena_rule.specs.Rule.{words_after}
+use Rattle.arena_rule.specs.Adds.{CountAdd}
+use Rattle.arena_rule.specs.Owing.{Debtor, view_of, debtless, OwingRule, stepped_seat, found_in}
+use Rattle.arena_rule.specs.Owing.{seats_after, CanOwe, owing_more, CanGive, owing_less, seats_split}
+use Rattle.std.proofs.lemmas.List.{set-get_or}
 use Rattle.arena_rule.proofs.Options.{none-some, false-true}
-use Rattle.arena_rule.proofs.Law.{steps, answers, splits, joins}
+use Rattle.arena_rule.proofs.Owing.{owing-answers, owing-steps, owing-owes, owing-gives, owing-room}
+use Rattle.arena_rule.proofs.Owing.{rightly-step, rightly-owe, rightly-give}
+use Rattle.arena_rule.specs.Owing.{OwesRightly}
+use Rattle.arena_rule.proofs.OwingSeats.{owing-splits, owing-joins, owes-none}
 use Rattle.arena_rule.proofs.Changes.{shape-after}
 use Rattle.arena_rule.proofs.ViewStays.{view-stays}
 use Rattle.arena_rule.proofs.ViewSeats.{kept-stays, given-stays, join-stays}
 use Rattle.tree_rule.specs.Tables.{HoldsArenaRule}
 use Rattle.tree_rule.specs.Events.{IsMadeInRule, SplitKeepsRule, JoinKeepsRule}
-use Rattle.tree_rule.specs.Plays.{IsStep, add_tells, note_tells}
+use Rattle.tree_rule.specs.Plays.{IsStep, add_tells, note_tells, IsOwing, IsGiving, give_tells}
 use Rattle.tree_rule.specs.Seats.{IsSeatOf}
 use Rattle.tree_rule.specs.Visits.{own_visits}
 
+-- each seat has the tree's shape
+pub shape-of : (s : Setting) (words : List ℕ) (seats : List Debtor) (id : ℕ) (d : Debtor)
+    → OwingRule s words seats → get_elem? seats id ≡ some d → d.view.shape ≡ s
+shape-of s words seats id d h at
+    = (h.rule.state.widths.each id d.view (at_map view_of seats id d at)).shape
+
 -- an operation that puts into the word what the step puts there, if the answer is one that it may
 -- give
-module _ (s : Setting) (slots id : ℕ) (m : Me ℕ SeatView) (op : Op) (iv : IsView m.0)
-    (fits : FitsStep m.0 op) where
+module _ (s : Setting) (slots id : ℕ) (m : Me ℕ Debtor) (op : Op) (iv : IsView m.0.view)
+    (fits : FitsStep m.0.view op) where
   -- the arena in which the step is made
-  made-in : (words : List ℕ) (views : List SeatView) → Rule s words views
-      → get_elem? views id ≡ some m.0 → 0 < m.0.width
-      → Rule s (words_after words op) (views_after words views id m.0 op)
-      → IsMadeInRule m.0 op (answer_of op (get_or words (word_of op) 0))
-  made-in words views h at live rule =
-      let shape : m.0.shape ≡ s = (h.state.widths.each id m.0 at).shape in
+  made-in : (words : List ℕ) (seats : List Debtor) → OwingRule s words seats
+      → get_elem? seats id ≡ some m.0 → 0 < m.0.view.width
+      → OwingRule s (words_after words op) (seats_after words seats id m.0 op)
+      → IsMadeInRule m.0 op (found_in words op)
+  made-in words seats h at live rule =
+      let shape : m.0.view.shape ≡ s = shape-of s words seats id m.0 h at in
       record {
-        arena = record { words = words; views = views };
+        arena = record { words = words; seats = seats };
         id = id;
         seat = record { at = at; live = live };
         found = refl;
-        before = subst (λ (z : Setting). Rule z words views) (sym shape) h;
-        after = subst (λ (z : Setting). Rule z (words_after words op) (views_after words views id m.0 op)) (sym shape) rule;
+        before = subst (λ (z : Setting). OwingRule z words seats) (sym shape) h;
+        after = subst (λ (z : Setting). OwingRule z (words_after words op) (seats_after words seats id m.0 op)) (sym shape) rule;
       }
 
   pub acts : (f : ℕ → ℕ)
-      → ((x : ℕ) → x < 2 ^ 64 → MayAnswer m.0 op (answer_of op x) → f x ≡ put op x)
+      → ((x : ℕ) → x < 2 ^ 64 → MayAnswer m.0.view op (answer_of op x) → f x ≡ put op x)
       → Allows (HoldsArenaRule s) slots id m (word_of op) f (λ x n. IsStep m op (answer_of op x) n)
   acts f same t h _ at low =
       let x : ℕ = get_or t.words (word_of op) 0 in
-      let w : SeatView = after m.0 op (answer_of op x) in
-      let live : 0 < m.0.width = omega (arith, iv.width) in
-      let may : MayAnswer m.0 op (answer_of op x)
-      = answers s t.words t.views h id m.0 at live op fits in
+      let w : Debtor = stepped_seat m.0 op (answer_of op x) in
+      let live : 0 < m.0.view.width = omega (arith, iv.width) in
+      let may : MayAnswer m.0.view op (answer_of op x)
+      = owing-answers s t.words t.views h id m.0 at live op fits in
       let rule : HoldsArenaRule s (stepped t (word_of op) (put op x) id m.1 w keeps)
-      = steps s t.words t.views h id m.0 at live op fits in (
+      = owing-steps s t.words t.views h id m.0 at live op fits in (
         w,
         keeps,
         tt,
@@ -73,6 +86,67 @@ module _ (s : Setting) (slots id : ℕ) (m : Me ℕ SeatView) (op : Op) (iv : Is
             (sym (same x low may)) rule,
         record { answer = may; made = made-in t.words t.views h at live rule; view = refl; slots = refl },
       )
+
+-- a load by which the seat begins to owe an add, and an add of all that it owes to a word
+module _ (s : Setting) (slots id : ℕ) (m : Me ℕ Debtor) (iv : IsView m.0.view) where
+  pub owes-allowed : (add : CountAdd) (q : ℕ) → CanOwe m.0 add
+      → Allows (HoldsArenaRule s) slots id m q (λ n. n) (λ x new. IsOwing m add new)
+  owes-allowed add q can t h _ at low =
+      let w : Debtor = owing_more m.0 add in
+      let live : 0 < m.0.view.width = omega (arith, iv.width) in
+      let rule : OwingRule s t.words (set t.views id w)
+      = owing-owes s t.words t.views h id m.0 at live add can in
+      let shape : m.0.view.shape ≡ s = shape-of s t.words t.views id m.0 h at in (
+        w,
+        keeps,
+        tt,
+        subst (λ (ws : List ℕ). OwingRule s ws (set t.views id w)) (sym (set-get_or t.words q 0)) rule,
+        record {
+          made = record {
+            arena = record { words = t.words; seats = t.views };
+            id = id;
+            seat = record { at = at; live = live };
+            before = subst (λ (z : Setting). OwingRule z t.words t.views) (sym shape) h;
+            after = subst (λ (z : Setting). OwingRule z t.words (set t.views id w)) (sym shape) rule;
+          };
+          view = refl;
+          slots = refl;
+        },
+      )
+
+  pub gives-allowed : (i n : ℕ) → CanGive m.0 i n
+      → Allows (HoldsArenaRule s) slots id m i (λ x. (x + n) % 2 ^ 64)
+      (give_tells (step slots i n 0 none) m)
+  gives-allowed i n can t h _ at low =
+      let w : Debtor = owing_less m.0 i in
+      let x : ℕ = get_or t.words i 0 in
+      let live : 0 < m.0.view.width = omega (arith, iv.width) in
+      let rule : OwingRule s (set t.words i (x + n)) (set t.views id w)
+      = owing-gives s t.words t.views h id m.0 at live i n can in
+      let few = iv.setting.ranges.playouts.1 in
+      let room : visits_in (x + n) ≤ m.0.view.shape.knobs.playouts
+      = owing-room s t.words t.views h id m.0 at live i n can in
+      let same : (x + n) % 2 ^ 64 ≡ x + n = mod-eq_of_lt (small (x + n) (omega (arith, room, few))) in
+      let shape : m.0.view.shape ≡ s = shape-of s t.words t.views id m.0 h at in (
+        w,
+        keeps,
+        tt,
+        subst (λ (k : ℕ). OwingRule s (set t.words i k) (set t.views id w)) (sym same) rule,
+        record {
+          made = record {
+            arena = record { words = t.words; seats = t.views };
+            id = id;
+            seat = record { at = at; live = live };
+            before = subst (λ (z : Setting). OwingRule z t.words t.views) (sym shape) h;
+            after = subst (λ (z : Setting). OwingRule z (set t.words i (x + n)) (set t.views id w)) (sym shape) rule;
+          };
+          view = refl;
+          slots = refl;
+        },
+      )
+    where
+      small : (k : ℕ) → visits_in k ≤ 1000000 → k < 2 ^ 64
+      small k l = omega (arith, l)
 
 -- the sums of draws, claims and adds are below 2^64
 module _ (v : SeatView) (iv : IsView v) where
@@ -125,28 +199,66 @@ own-visits v op n x may known e =
     (look.step.tally x known refl).own
 
 -- a step leaves the seat at its table, with a view in order
-pub sits-after : (table : TableId) (old new : Seat ℕ SeatView) (op : Op) (x : ℕ)
-    → IsSeatOf table old → FitsStep old.me.0 op → new.table_id ≡ old.table_id
+pub sits-after : (table : TableId) (old new : Seat ℕ Debtor) (op : Op) (x : ℕ)
+    → IsSeatOf table old → FitsStep old.me.0.view op → new.table_id ≡ old.table_id
     → IsStep old.me op x new.me → IsSeatOf table new
 sits-after table old new op x sits fits same told = record {
   table = same ∙ sits.table;
   slots = told.slots ∙ sits.slots;
   words = sits.words
-      ∙ sym (ap (λ (u : SeatView). end_of u.shape) told.view ∙ ap end_of (shape-after old.me.0 op x));
-  view = subst IsView (sym told.view) (view-stays old.me.0 sits.view op x fits told.answer);
+      ∙ sym (ap (λ (u : Debtor). end_of u.view.shape) told.view ∙ ap end_of (shape-after old.me.0.view op x));
+  view = subst (λ (u : Debtor). IsView u.view) (sym told.view)
+      (view-stays old.me.0.view sits.view op x fits told.answer);
+  owed = subst OwesRightly (sym told.view) (rightly-step old.me.0 op x sits.owed);
+}
+
+-- an add that is owed may be answered 0
+pub owed-answer : (d : Debtor) (add : CountAdd) → IsView d.view → CanOwe d add
+    → MayAnswer d.view (Add add.word add.won) 0
+owed-answer d add iv can = record {
+  step = let some = iv.setting.ranges.playouts.0 in omega (arith, some);
+  whole = λ copy e. absurd (none-some (sym can.alone ∙ e));
+}
+
+-- so does one that begins to owe
+pub sits-owing : (table : TableId) (old new : Seat ℕ Debtor) (add : CountAdd)
+    → IsSeatOf table old → CanOwe old.me.0 add → new.table_id ≡ old.table_id
+    → IsOwing old.me add new.me → IsSeatOf table new
+sits-owing table old new add sits can same told = record {
+  table = same ∙ sits.table;
+  slots = told.slots ∙ sits.slots;
+  words = sits.words
+      ∙ sym (ap (λ (u : Debtor). end_of u.view.shape) told.view ∙ ap end_of (shape-after old.me.0.view (Add add.word add.won) 0));
+  view = subst (λ (u : Debtor). IsView u.view) (sym told.view)
+      (view-stays old.me.0.view sits.view (Add add.word add.won) 0 can.fits (owed-answer old.me.0 add sits.view can));
+  owed = subst OwesRightly (sym told.view) (rightly-owe old.me.0 add sits.owed can);
+}
+
+-- and one that gives
+pub sits-giving : (table : TableId) (old new : Seat ℕ Debtor) (i n : ℕ)
+    → IsSeatOf table old → new.table_id ≡ old.table_id
+    → IsGiving old.me i n new.me → IsSeatOf table new
+sits-giving table old new i n sits same told = record {
+  table = same ∙ sits.table;
+  slots = told.slots ∙ sits.slots;
+  words = sits.words ∙ sym (ap (λ (u : Debtor). end_of u.view.shape) told.view);
+  view = subst (λ (u : Debtor). IsView u.view) (sym told.view) sits.view;
+  owed = subst OwesRightly (sym told.view) (rightly-give old.me.0 i sits.owed);
 }
 
 -- an Add is told by what it adds, and a Note by its word
-pub add-allowed : (s : Setting) (slots id : ℕ) (m : Me ℕ SeatView) (i n : ℕ) (won : Bool)
-    → n ≡ amount_of won → IsView m.0 → FitsStep m.0 (Add i won)
+pub add-allowed : (s : Setting) (slots id : ℕ) (m : Me ℕ Debtor) (i n : ℕ) (won : Bool)
+    → n ≡ amount_of won → IsView m.0.view → FitsStep m.0.view (Add i won)
     → Allows (HoldsArenaRule s) slots id m i (λ x. (x + n) % 2 ^ 64)
     (add_tells (step slots i n 0 none) m)
 add-allowed s slots id m i n won is iv fits =
-    subst (λ (t : Bool). Allows (HoldsArenaRule s) slots id m i (λ x. (x + n) % 2 ^ 64) (λ x new. IsStep m (Add i t) x new)) (sym (ap (λ (k : ℕ). k == amount_of true) is ∙ won-told won))
-    (acts s slots id m (Add i won) iv fits (λ x. (x + n) % 2 ^ 64) (λ x low may. ap (λ (k : ℕ). (x + k) % 2 ^ 64) is ∙ add-same m.0 iv i won x may))
+    subst (λ (t : Bool). Allows (HoldsArenaRule s) slots id m i (λ x. (x + n) % 2 ^ 64)
+    (λ x new. IsStep m (Add i t) x new)) (sym (ap (λ (k : ℕ). k == amount_of true) is ∙ won-told
+    won))
+    (acts s slots id m (Add i won) iv fits (λ x. (x + n) % 2 ^ 64) (λ x low may. ap (λ (k : ℕ). (x + k) % 2 ^ 64) is ∙ add-same m.0.view iv i won x may))
 
-pub note-allowed : (s : Setting) (slots id : ℕ) (m : Me ℕ SeatView) (k value : ℕ) → IsView m.0
-    → FitsStep m.0 (Note k value)
+pub note-allowed : (s : Setting) (slots id : ℕ) (m : Me ℕ Debtor) (k value : ℕ) → IsView m.0.view
+    → FitsStep m.0.view (Note k value)
     → Allows (HoldsArenaRule s) slots id m (2 + k) (λ _. value)
     (λ _. note_tells (step slots (2 + k) value 0 none) m value)
 note-allowed s slots id m k value iv fits =
@@ -155,22 +267,25 @@ note-allowed s slots id m k value iv fits =
     (acts s slots id m (Note k value) iv fits (λ _. value) (λ x low may. refl))
 
 -- a split and a join, as the table asks for them, if the part and the spent view are picked
-pub cuts : (s : Setting) (id part p : ℕ) (v : SeatView) → part ≡ p → IsView v → CanSplit v part
-    → Splits (HoldsArenaRule s) id v (kept_part v p) (given_part v p)
-cuts s id part p v is iv can t h at =
-    subst (λ (q : ℕ). Rule s t.words (views_split t.views id v q)) is
-    (splits s t.words t.views h id v at (omega (arith, iv.width)) part can)
+pub cuts : (s : Setting) (id part p : ℕ) (d : Debtor) → part ≡ p → IsView d.view
+    → CanSplit d.view part → d.owed ≡ []
+    → Splits (HoldsArenaRule s) id d (debtless (kept_part d.view p)) (debtless (given_part d.view p))
+cuts s id part p d is iv can free t h at =
+    subst (λ (q : ℕ). OwingRule s t.words (seats_split t.views id d.view q)) is
+    (owing-splits s t.words t.views h id d at free (omega (arith, iv.width)) part can)
 
-pub merges : (s : Setting) (id : ℕ) (v : SeatView) (other : ℕ) (w spent : SeatView)
-    → spent ≡ spent_view v.shape → IsView v → IsView w → CanJoin v w
-    → Joins (HoldsArenaRule s) id v other w (joined v w) spent
-merges s id v other w spent is iv iw can t h at apart there =
-    let here : get_elem? t.views other ≡ some w
-    = ⊎_elim (λ (q : (other ≡ id) × (joined v w ≡ w)). absurd (apart q.0))
-    (λ (q : (other ≢ id) × (get_elem? t.views other ≡ some w)). q.1)
-    (at_set t.views id other (joined v w) w there) in
-    subst (λ (u : SeatView). Rule s t.words (set (set t.views id (joined v w)) other u)) (sym is)
-    (joins s t.words t.views h id v at (omega (arith, iv.width)) other w here apart (omega (arith, iw.width)) can)
+pub merges : (s : Setting) (id : ℕ) (d : Debtor) (other : ℕ) (e : Debtor) (spent : SeatView)
+    → spent ≡ spent_view d.view.shape → IsView d.view → IsView e.view → CanJoin d.view e.view
+    → d.owed ≡ [] → e.owed ≡ []
+    → Joins (HoldsArenaRule s) id d other e (debtless (joined d.view e.view)) (debtless spent)
+merges s id d other e spent is iv iw can free nothing t h at apart there =
+    let both : Debtor = debtless (joined d.view e.view) in
+    let here : get_elem? t.views other ≡ some e
+    = ⊎_elim (λ (q : (other ≡ id) × (both ≡ e)). absurd (apart q.0))
+    (λ (q : (other ≢ id) × (get_elem? t.views other ≡ some e)). q.1)
+    (at_set t.views id other both e there) in
+    subst (λ (u : SeatView). OwingRule s t.words (set (set t.views id both) other (debtless u))) (sym is)
+    (owing-joins s t.words t.views h id d at free (omega (arith, iv.width)) other e here apart (omega (arith, iw.width)) nothing can)
 
 pub kept-shape : (v : SeatView) (part : ℕ) → (kept_part v part).shape ≡ v.shape
 unfolding kept_part
@@ -193,50 +308,58 @@ opening-order s h = record {
   leaf = λ f e. absurd (none-some e);
 }
 
-module _ (table : TableId) (old new : Seat ℕ SeatView) where
-  pub sits-kept : (part p : ℕ) → IsSeatOf table old → CanSplit old.me.0 part → part ≡ p
-      → new.table_id ≡ old.table_id → new.me ≡ (kept_part old.me.0 p, old.me.1) → IsSeatOf table new
+module _ (table : TableId) (old new : Seat ℕ Debtor) where
+  pub sits-kept : (part p : ℕ) → IsSeatOf table old → CanSplit old.me.0.view part → part ≡ p
+      → new.table_id ≡ old.table_id → new.me ≡ (debtless (kept_part old.me.0.view p), old.me.1)
+      → IsSeatOf table new
   sits-kept part p sits can is same me = record {
     table = same ∙ sits.table;
-    slots = ap (λ (m : Me ℕ SeatView). m.1) me ∙ sits.slots;
+    slots = ap (λ (m : Me ℕ Debtor). m.1) me ∙ sits.slots;
     words = sits.words
-        ∙ sym (ap (λ (m : Me ℕ SeatView). end_of m.0.shape) me ∙ ap end_of (kept-shape old.me.0 p));
-    view = subst IsView (ap (kept_part old.me.0) is ∙ sym (ap (λ (m : Me ℕ SeatView). m.0) me))
-        (kept-stays old.me.0 sits.view part can);
+        ∙ sym (ap (λ (m : Me ℕ Debtor). end_of m.0.view.shape) me ∙ ap end_of (kept-shape old.me.0.view p));
+    view = subst IsView (ap (kept_part old.me.0.view) is ∙ sym (ap (λ (m : Me ℕ Debtor). m.0.view) me))
+        (kept-stays old.me.0.view sits.view part can);
+    owed = subst OwesRightly (sym (ap (λ (m : Me ℕ Debtor). m.0) me)) (owes-none (kept_part old.me.0.view p));
   }
 
-  pub sits-given : (part p : ℕ) → IsSeatOf table old → CanSplit old.me.0 part → part ≡ p
-      → new.table_id ≡ old.table_id → new.me ≡ (given_part old.me.0 p, []) → IsSeatOf table new
+  pub sits-given : (part p : ℕ) → IsSeatOf table old → CanSplit old.me.0.view part → part ≡ p
+      → new.table_id ≡ old.table_id → new.me ≡ (debtless (given_part old.me.0.view p), [])
+      → IsSeatOf table new
   sits-given part p sits can is same me = record {
     table = same ∙ sits.table;
-    slots = ap (λ (m : Me ℕ SeatView). m.1) me;
-    words = sits.words ∙ sym (ap (λ (m : Me ℕ SeatView). end_of m.0.shape) me);
-    view = subst IsView (ap (given_part old.me.0) is ∙ sym (ap (λ (m : Me ℕ SeatView). m.0) me))
-        (given-stays old.me.0 sits.view part can);
+    slots = ap (λ (m : Me ℕ Debtor). m.1) me;
+    words = sits.words ∙ sym (ap (λ (m : Me ℕ Debtor). end_of m.0.view.shape) me);
+    view = subst IsView (ap (given_part old.me.0.view) is ∙ sym (ap (λ (m : Me ℕ Debtor). m.0.view) me))
+        (given-stays old.me.0.view sits.view part can);
+    owed = subst OwesRightly (sym (ap (λ (m : Me ℕ Debtor). m.0) me)) (owes-none (given_part old.me.0.view p));
   }
 
-pub sits-joined : (table : TableId) (old other new : Seat ℕ SeatView) → IsSeatOf table old
-    → IsSeatOf table other → other.me.0.shape ≡ old.me.0.shape → CanJoin old.me.0 other.me.0
-    → new.table_id ≡ old.table_id → new.me ≡ (joined old.me.0 other.me.0, old.me.1)
+pub sits-joined : (table : TableId) (old other new : Seat ℕ Debtor) → IsSeatOf table old
+    → IsSeatOf table other → other.me.0.view.shape ≡ old.me.0.view.shape
+    → CanJoin old.me.0.view other.me.0.view
+    → new.table_id ≡ old.table_id
+    → new.me ≡ (debtless (joined old.me.0.view other.me.0.view), old.me.1)
     → IsSeatOf table new
 sits-joined table old other new sits others shape can same me = record {
   table = same ∙ sits.table;
-  slots = ap (λ (m : Me ℕ SeatView). m.1) me ∙ sits.slots;
+  slots = ap (λ (m : Me ℕ Debtor). m.1) me ∙ sits.slots;
   words = sits.words
-      ∙ sym (ap (λ (m : Me ℕ SeatView). end_of m.0.shape) me ∙ ap end_of (joined-shape old.me.0 other.me.0));
-  view = subst IsView (sym (ap (λ (m : Me ℕ SeatView). m.0) me))
-      (join-stays old.me.0 other.me.0 sits.view others.view shape can);
+      ∙ sym (ap (λ (m : Me ℕ Debtor). end_of m.0.view.shape) me ∙ ap end_of (joined-shape old.me.0.view other.me.0.view));
+  view = subst IsView (sym (ap (λ (m : Me ℕ Debtor). m.0.view) me))
+      (join-stays old.me.0.view other.me.0.view sits.view others.view shape can);
+  owed = subst OwesRightly (sym (ap (λ (m : Me ℕ Debtor). m.0) me))
+      (owes-none (joined old.me.0.view other.me.0.view));
 }
 
 -- a split and a join keep the rule wherever it holds
 pub split-keeps : (v w u : SeatView) (part : ℕ) → IsView v → CanSplit v part → w ≡ kept_part v part
     → u ≡ given_part v part → SplitKeepsRule v w u
 split-keeps v w u part iv can kept given a id h seat =
-    subst (λ (z : SeatView). Rule v.shape a.words (set a.views id z ++ u ∷ [])) (sym kept)
-    (subst (λ (z : SeatView). Rule v.shape a.words (set a.views id (kept_part v part) ++ z ∷ [])) (sym given)
-    (splits v.shape a.words a.views h id v seat.at seat.live part can))
+    subst (λ (z : SeatView). OwingRule v.shape a.words (set a.seats id (debtless z) ++ debtless u ∷ [])) (sym kept)
+    (subst (λ (z : SeatView). OwingRule v.shape a.words (set a.seats id (debtless (kept_part v part)) ++ debtless z ∷ [])) (sym given)
+    (owing-splits v.shape a.words a.seats h id (debtless v) seat.at refl seat.live part can))
 
 pub join-keeps : (v u w : SeatView) → IsView v → CanJoin v u → w ≡ joined v u → JoinKeepsRule v u w
 join-keeps v u w iv can both a id other h seat others apart =
-    subst (λ (z : SeatView). Rule v.shape a.words (set (set a.views id z) other (spent_view v.shape))) (sym both)
-    (joins v.shape a.words a.views h id v seat.at seat.live other u others.at apart others.live can)
+    subst (λ (z : SeatView). OwingRule v.shape a.words (set (set a.seats id (debtless z)) other (debtless (spent_view v.shape)))) (sym both)
+    (owing-joins v.shape a.words a.seats h id (debtless v) seat.at refl seat.live other (debtless u) others.at apart others.live refl can)

@@ -23,6 +23,8 @@ use Rattle.arena_rule.specs.Fits.{FitsStep, IsNext}
 use Rattle.arena_rule.specs.Afters.{word_of}
 use Rattle.arena_rule.specs.IsView.{IsView, AreTold}
 use Rattle.arena_rule.proofs.Options.{none-some, some-eq}
+use Rattle.arena_rule.specs.Owing.{Debtor, OwesRightly, CanGive}
+use Rattle.arena_rule.proofs.Owing.{given-seen}
 
 -- each of the adds is at a word below the end
 AreBelow : ℕ → List CountAdd → Type 0
@@ -84,13 +86,21 @@ adds-below s o (b ∷ ks) y t =
     subst (λ (u : Bool). AreBelow (end_of s) (cond u (node_adds o b y above) (adds_up s o ks y)).adds) (sym h)
     (below-cons (end_of s) (record { word = y + 2; won = won }) (seen ++ above.adds) (omega arith)
     (below-append (end_of s) seen above.adds (below-seen (end_of s) set won (b.start + 4) b.cells (omega (arith, high))) (adds-below s o ks b.parent t.1))))
-    (λ (h : has_node b y ≡ false). subst (λ (u : Bool). AreBelow (end_of s) (cond u (node_adds o b y above) (adds_up s o ks y)).adds) (sym h) (adds-below s o ks y t.1))
+    (λ (h : has_node b y ≡ false). subst (λ (u : Bool). AreBelow (end_of s) (cond u (node_adds o b y
+    above) (adds_up s o ks y)).adds) (sym h) (adds-below s o ks y t.1))
     (cases_Bool (has_node b y))
 
 walk-below : (s : Setting) (ks : List LinkedBlock) (k leaf : ℕ) → AreTold s ks
     → AreBelow (end_of s) (walk_adds s ks k leaf)
 unfolding walk_adds
 walk-below s ks k leaf t = adds-below s (outcome_of s k (node_state s ks leaf)) ks leaf t
+
+-- a word that may be given to lies before the end
+pub give-within : (d : Debtor) (i n : ℕ) → IsView d.view → OwesRightly d → CanGive d i n
+    → i < end_of d.view.shape
+give-within d i n iv h can =
+    let seen = given-seen d i n h can in
+    omega (arith, seen.word, node-below d.view.shape d.view.known seen.node iv.known seen.known)
 
 module _ (v : SeatView) (iv : IsView v) where
   next-below : (k : ℕ) (f : Option Flight) (a : CountAdd) → IsNext v k f a → a.word < end_of v.shape

@@ -12,14 +12,17 @@
 //! answers that no playout is left. Then the caller puts the seats together again with
 //! [`TreeSeat::join`], and takes the closed tree out with [`Tree::close`].
 //!
-//! **What is proved.** The arena rule holds between any two steps, whichever seats make them. A
-//! step that fits has an answer that it may give, and the view afterwards is the one of that
-//! answer. What a seat knows only grows, and a look at a node's tally answers at least the visits
-//! that this seat itself made there. A split and a join give the views that the rule says. The
-//! words at the end are a closed tree. They show what the last seat knew, and their records are
-//! those of its walks, which are the walks of all playouts. If its view has a copy of all words
-//! they are that copy. `make` takes all memory, of which its only refusal speaks; no other call
-//! takes any, and none waits.
+//! A seat may hold an add to a seen word back ([`TreeSeat::owe`]), and give what it owes to a word
+//! in one step ([`TreeSeat::give`]). It owes nothing when it splits, joins or is closed.
+//!
+//! **What is proved.** The arena rule holds between any two steps, whichever seats make them: of
+//! the words with what is owed to them (`OwingRule` of arena_rule). A step that fits has an answer
+//! that it may give, and the view afterwards is the one of that answer. What a seat knows only
+//! grows, and a look at a node's tally answers at least the visits that this seat itself made
+//! there. A split and a join give the views that the rule says. The words at the end are a closed
+//! tree. They show what the last seat knew, and their records are those of its walks, which are the
+//! walks of all playouts. If its view has a copy of all words they are that copy. `make` takes all
+//! memory, of which its only refusal speaks; no other call takes any, and none waits.
 //!
 //! **What is only tested, or not said.** Which worker draws which number, that two workers ran at
 //! the same time, that a publish wins its race, and progress.

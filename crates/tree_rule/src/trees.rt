@@ -1,6 +1,7 @@
 //! The shared tree.
 
-ghost use Rattle.std.specs.Prelude.{◌≡◌, ◌<◌, IfOk, length};
+ghost use Rattle.std.specs.Prelude.{◌≡◌, ◌<◌, IfOk, length, []};
+ghost use Rattle.tree_words.specs.Words.{end_of};
 ghost use Rattle.std.specs.Mem.Slots.{slots_items, slots_len, IsFull};
 ghost use Rattle.arena_rule.specs.Views.{opening_view, HasEnded};
 ghost use Rattle.arena_rule.specs.Closed.{HasAllWalks};
@@ -12,15 +13,15 @@ ghost use Rattle.tree_rule.specs.Ends.{IsSameBehind, EndsWith};
 
 use super::rule::ArenaRule;
 use super::seats::TreeSeat;
-use arena_rule::View;
+use arena_rule::Account;
 use atomic_table::{Seat, Table};
 use std::alloc::Global;
 use std::marker::Model;
-use tree_words::layout::NEXT_AT;
+use tree_words::layout::{NEXT_AT, RECORDS_AT};
 use tree_words::{Closed, Memory, Shape, make_opening};
 
 // The table of a tree, and the table when no seat shares it any more.
-type OpenTable = Table<u8, View, Shape, ArenaRule, Global>;
+type OpenTable = Table<u8, Account, Shape, ArenaRule, Global>;
 
 type ClosedTable = atomic_table::Closed<u8, Global>;
 
@@ -61,10 +62,13 @@ fn copy_claimed(table: &ClosedTable, room: &mut [u64])
 }
 
 // The words at the end, in the room where the opening words stand.
-fn end(table: OpenTable, seat: Seat<u8, View>, mut room: Vec<u64>) -> Vec<u64>
+fn end(table: OpenTable, seat: Seat<u8, Account>, mut room: Vec<u64>) -> Vec<u64>
     requires own { seat.table_id ≡ table.shared.table_id }
     requires stands { IsTableFor table.shared.key table.shared.table_id room.items }
-    ensures { EndsWith table.shared.key seat.id seat.me.0 result.items }
+    requires owed { seat.me.0.owed ≡ [] }
+    requires all { seat.me.0.view.width ≡ table.shared.key.knobs.workers }
+    requires ended { HasEnded seat.me.0.view }
+    ensures { EndsWith table.shared.key seat.id seat.me.0.view result.items }
 {
     let closed = table.close_with(seat);
     copy_claimed(&closed, &mut room);
@@ -79,6 +83,7 @@ impl Tree {
         ensures shape { IfOk result (λ t. t.0.shape ≡ shape.now) }
         ensures own { IfOk result (λ t. IsOf t.0 t.1) }
         ensures view { IfOk result (λ t. t.1.view ≡ opening_view shape.now) }
+        ensures owed { IfOk result (λ t. t.1.owed ≡ []) }
         ensures order { IfOk result (λ t. IsView t.1.view) }
         ensures rule { IfOk result (λ t. BeginsInRule t.0.shape t.1.view) }
     {
@@ -96,6 +101,16 @@ impl Tree {
         Ok((tree, TreeSeat { seat }))
     }
 
+    // A word that is seldom written: the record of a playout in the middle.
+    #[inline(always)]
+    pub(crate) fn quiet_word(&self) -> u32
+        ensures { result < end_of self.now.shape }
+    {
+        // Brings what the type keeps into scope.
+        let playouts = self.shape.knobs().playouts;
+        RECORDS_AT as u32 + playouts / 2
+    }
+
     /// The closed tree, if the seat stands for all workers and they have ended. It takes no
     /// memory. Its words show what the seat knew, and its records are those of the seat's walks,
     /// which are the walks of all playouts.
@@ -103,6 +118,7 @@ impl Tree {
         requires own { IsOf self seat }
         requires all { seat.view.width ≡ self.shape.knobs.workers }
         requires ended { HasEnded seat.view }
+        requires owed { seat.owed ≡ [] }
         ensures shape { result.shape ≡ self.shape }
         ensures known { AreShown result.words seat.view.known }
         ensures walks { HasAllWalks self.shape seat.view }

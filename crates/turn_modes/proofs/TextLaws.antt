@@ -1,5 +1,5 @@
--- What the texts of modes sim and bench say of their turns, and that the options determine them.
-use Rattle.std.proofs.Common.{◌≡◌, ℕ, cond, List, [], ◌++◌, Some, sym, ap, ◌∙◌, subst, inl, inr}
+-- What the texts of modes sim and bench say of their turns, and when the options determine them.
+use Rattle.std.proofs.Common.{◌≡◌, ℕ, false, cond, List, [], ◌++◌, Some, refl, sym, ap, ◌∙◌, subst, inl, inr}
 use Rattle.std.specs.Prelude.{option_map}
 use Rattle.std.proofs.lemmas.Bool.{cases_eq, ne_eqb}
 use Rattle.hex_board.specs.Positions.{Position}
@@ -11,9 +11,10 @@ use Rattle.tree_words.specs.Roots.{rows_of}
 use Rattle.tree_words.specs.Settings.{Setting}
 use Rattle.tree_words.specs.declared.roots.Row.{Row}
 use Rattle.tree_words.specs.declared.settings.Knobs.{Knobs}
+use Rattle.hex_plan.specs.Good.{no_means}
 use Rattle.hex_plan.specs.TurnTexts.{report_by, report_of, report_on}
 use Rattle.hex_plan.specs.Turns.{TurnData}
-use Rattle.turn_modes.specs.ModeTexts.{bench_lines, bench_text, best_line, sim_text}
+use Rattle.turn_modes.specs.ModeTexts.{bench_lines, bench_text, best_line, sim_text, turn_text}
 use Rattle.turn_modes.specs.OneTurn.{IsBenchmark, IsFirstTurn, IsSimulation, bench_board}
 use Rattle.turn_modes.specs.OneTurn.{bench_player, bench_stones, first_rows}
 use Rattle.turn_modes.specs.Positions.{IsBenchPosition, board_on, mover_after, shuffled_cells}
@@ -22,19 +23,20 @@ use Rattle.turn_modes.specs.Rows.{best_cell, visits_of}
 use Rattle.turn_modes.specs.Telling.{TellsBench, TellsSim}
 use Rattle.turn_modes.specs.declared.options.ModeOptions.{ModeOptions}
 use Rattle.turn_modes.specs.declared.positions.BenchPosition.{BenchPosition}
-use Rattle.turn_modes.proofs.Decided.{searched_tree, sequential_rows_of, tree_setting}
+use Rattle.turn_modes.proofs.Decided.{bare_turn, sequential_rows_of, tree_setting}
 use Rattle.turn_modes.proofs.Preferred.{best_in}
 use Rattle.turn_modes.proofs.Recorded.{all_recorded}
 
 -- ---- mode sim
 
 pub simulation_says : (o : ModeOptions) (t : TurnData) (text items : List ℕ)
-    → IsFirstTurn o.knobs (empty_board o.size) Black t → text ≡ items → TellsSim t items
-    → IsSimulation o t text
+    → IsFirstTurn o.knobs no_means (empty_board o.size) Black t → text ≡ items
+    → TellsSim t items → IsSimulation o t text
 unfolding report_of
 simulation_says o t text items f same says =
     let start : Position = empty_board o.size in
-    let tree = searched_tree o.knobs start Black t f in
+    let b = bare_turn o.knobs no_means start Black t refl f in
+    let tree = b.tree in
     let c : ClosedTree = tree.0 in
     let size : t.board.size ≡ o.size = ap (λ (p : Position). p.size) f.board in
     let reported : report_of t ≡ Some (report_on t.board.size c)
@@ -42,7 +44,7 @@ simulation_says o t text items f same says =
     let said : text ≡ sim_text o.size t.cell (report_on t.board.size c)
     = same ∙ says (report_on t.board.size c) reported
     ∙ ap (λ n. sim_text n t.cell (report_on t.board.size c)) size in
-    let setting = tree_setting o.knobs start Black t f c tree.2 in
+    let setting = tree_setting o.knobs no_means start Black t f b in
     let playouts : c.shape.knobs.playouts ≡ o.knobs.playouts
     = ap (λ (z : Setting). z.knobs.playouts) setting in
     record {
@@ -57,7 +59,7 @@ simulation_says o t text items f same says =
           (report_by o.size n (rows_of c.shape c.words))) playouts
           ∙ ap (λ (rs : List Row). sim_text o.size (best_cell rs)
           (report_by o.size o.knobs.playouts rs))
-          (sequential_rows_of o.knobs start Black t f c tree.2 w);
+          (sequential_rows_of o.knobs no_means start Black t f b w);
     }
 
 -- ---- mode bench
@@ -88,35 +90,41 @@ pub bench_size : (o : ModeOptions) (p : BenchPosition) → IsBenchPosition o.siz
 bench_size o p h n = ap (λ (b : Position). b.size) (sym (position_board o p h)) ∙ n
 
 pub bench_turn : (o : ModeOptions) (p : BenchPosition) (t : TurnData)
-    → IsBenchPosition o.size o.knobs.seed p → IsFirstTurn o.knobs p.board p.colour t
-    → IsFirstTurn o.knobs (bench_board o) (bench_player o) t
+    → IsBenchPosition o.size o.knobs.seed p → IsFirstTurn o.knobs o.means p.board p.colour t
+    → IsFirstTurn o.knobs o.means (bench_board o) (bench_player o) t
 bench_turn o p t h f =
-    subst (λ (b : Position). IsFirstTurn o.knobs b (bench_player o) t) (position_board o p h)
-    (subst (λ (k : Colour). IsFirstTurn o.knobs p.board k t) (h.colour ∙ ap mover_after h.stones) f)
+    subst (λ (b : Position). IsFirstTurn o.knobs o.means b (bench_player o) t)
+    (position_board o p h)
+    (subst (λ (k : Colour). IsFirstTurn o.knobs o.means p.board k t)
+    (h.colour ∙ ap mover_after h.stones) f)
+
+-- without connections they determine what its text says
+says_rows : (o : ModeOptions) (t : TurnData) (text : List ℕ)
+    → IsFirstTurn o.knobs o.means (bench_board o) (bench_player o) t
+    → text ≡ turn_text o.size (bench_stones o) o.knobs t.cell t.closed → o.means.hsearch ≡ false
+    → text ≡ (let rows = first_rows o.knobs (bench_board o) (bench_player o) in
+    bench_text o.size (bench_stones o) o.knobs o.knobs.playouts rows (best_cell rows))
+says_rows o t text f said off =
+    let now : Position = bench_board o in
+    let mover : Colour = bench_player o in
+    let b = bare_turn o.knobs o.means now mover t off f in
+    let c : ClosedTree = b.tree.0 in
+    let rows : List Row = rows_of c.shape c.words in
+    let records : records_in c ≡ o.knobs.playouts = all_recorded c.shape c.words b.tree.2.closed
+    ∙ ap (λ (z : Setting). z.knobs.playouts) (tree_setting o.knobs o.means now mover t f b) in
+    said ∙ ap (turn_text o.size (bench_stones o) o.knobs t.cell) b.tree.1
+    ∙ ap (λ k. bench_text o.size (bench_stones o) o.knobs k rows t.cell) records
+    ∙ by_rows o.size (bench_stones o) o.knobs.playouts t.cell o.knobs rows
+    (first_rows o.knobs now mover) (best_in c.shape c.words t.cell b.tree.2.best)
+    (λ w. sequential_rows_of o.knobs o.means now mover t f b w)
 
 pub benchmark_says : (o : ModeOptions) (t : TurnData) (stones : ℕ) (text items : List ℕ)
-    → IsFirstTurn o.knobs (bench_board o) (bench_player o) t → stones ≡ bench_stones o
+    → IsFirstTurn o.knobs o.means (bench_board o) (bench_player o) t → stones ≡ bench_stones o
     → (bench_board o).size ≡ o.size → text ≡ items
     → TellsBench o.knobs stones t items → IsBenchmark o t text
 benchmark_says o t stones text items f m n same says =
-    let now : Position = bench_board o in
-    let mover : Colour = bench_player o in
-    let tree = searched_tree o.knobs now mover t f in
-    let c : ClosedTree = tree.0 in
-    let rows : List Row = rows_of c.shape c.words in
     let size : t.board.size ≡ o.size = ap (λ (p : Position). p.size) f.board ∙ n in
-    let said : text ≡ bench_text o.size (bench_stones o) o.knobs (records_in c) rows t.cell
-    = same ∙ says c tree.1 ∙ ap (λ k. bench_text k stones o.knobs (records_in c) rows t.cell) size
-    ∙ ap (λ k. bench_text o.size k o.knobs (records_in c) rows t.cell) m in
-    let setting = tree_setting o.knobs now mover t f c tree.2 in
-    let records : records_in c ≡ o.knobs.playouts = all_recorded c.shape c.words tree.2.closed
-    ∙ ap (λ (z : Setting). z.knobs.playouts) setting in
-    record {
-      turn = f;
-      says = (c, tree.1, said);
-      determined = said
-          ∙ ap (λ k. bench_text o.size (bench_stones o) o.knobs k rows t.cell) records
-          ∙ by_rows o.size (bench_stones o) o.knobs.playouts t.cell o.knobs rows
-          (first_rows o.knobs now mover) (best_in c.shape c.words t.cell tree.2.best)
-          (λ w. sequential_rows_of o.knobs now mover t f c tree.2 w);
-    }
+    let said : text ≡ turn_text o.size (bench_stones o) o.knobs t.cell t.closed
+    = same ∙ says ∙ ap (λ k. turn_text k stones o.knobs t.cell t.closed) size
+    ∙ ap (λ k. turn_text o.size k o.knobs t.cell t.closed) m in
+    record { turn = f; says = said; determined = says_rows o t text f said }

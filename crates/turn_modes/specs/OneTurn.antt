@@ -1,5 +1,5 @@
 -- The turns and texts of modes sim and bench.
-use Rattle.std.specs.Prelude.{◌≡◌, ℕ, false, List, Some, None}
+use Rattle.std.specs.Prelude.{◌≡◌, ℕ, List, Some, None, false}
 use Rattle.hex_cells.specs.declared.colours.Colour.{Colour}
 use Rattle.hex_cells.specs.declared.colours.Colour.TheVariants.{Black}
 use Rattle.hex_board.specs.Joined.{winner_of}
@@ -7,42 +7,41 @@ use Rattle.hex_board.specs.Positions.{Position, empty_board}
 use Rattle.play_out.specs.Fills.{empties_of}
 use Rattle.tree_words.specs.Closing.{ClosedTree}
 use Rattle.tree_words.specs.Complete.{set_of}
-use Rattle.tree_words.specs.Roots.{rows_of}
 use Rattle.tree_words.specs.Sequence.{seq_of}
 use Rattle.tree_words.specs.Settings.{Setting}
 use Rattle.tree_words.specs.declared.roots.Row.{Row}
 use Rattle.tree_words.specs.declared.settings.Knobs.{Knobs}
-use Rattle.hex_plan.specs.Good.{IsSequential, IsTurnShape}
+use Rattle.hex_plan.specs.Good.{IsSequential, IsTurnShape, no_means}
 use Rattle.hex_plan.specs.Plans.{IsPlanned}
 use Rattle.hex_plan.specs.Reports.{rows_in}
 use Rattle.hex_plan.specs.Seeds.{turn_knobs}
 use Rattle.hex_plan.specs.TurnTexts.{report_by, report_of}
 use Rattle.hex_plan.specs.Turns.{TurnData}
 use Rattle.hex_plan.specs.declared.plans.Planned.{Planned}
+use Rattle.hex_plan.specs.declared.settings.Means.{Means}
 use Rattle.turn_search.specs.Owed.{IsOwed}
 use Rattle.sim_run.specs.BetweenSteps.{EndsSchedule}
-use Rattle.turn_modes.specs.ModeTexts.{sim_text, bench_text}
+use Rattle.turn_modes.specs.ModeTexts.{sim_text, bench_text, turn_text}
 use Rattle.turn_modes.specs.Positions.{board_on, mover_after, shuffled_cells, placed_count}
-use Rattle.turn_modes.specs.Records.{records_in}
 use Rattle.turn_modes.specs.Rows.{best_cell}
 use Rattle.turn_modes.specs.Schedules.{schedule_of}
 use Rattle.turn_modes.specs.declared.options.ModeOptions.{ModeOptions}
 
 -- ---- the turn
 
--- the first turn that a session which looks for no connections owes, on this board with this
--- player to move
-abbrev pub IsFirstTurn : Knobs → Position → Colour → TurnData → Type 0
-IsFirstTurn knobs now mover = IsOwed knobs false now mover 0
+-- the first turn that a session with these knobs and means owes, on this board with this player to
+-- move
+abbrev pub IsFirstTurn : Knobs → Means → Position → Colour → TurnData → Type 0
+IsFirstTurn knobs means now mover = IsOwed knobs means now mover 0
 
--- the turn is a first turn whenever its plan and tree are those of one
+-- the turn is a first turn without means whenever its plan and tree are those of one
 abbrev pub MakesFirstTurn : Planned → ClosedTree → TurnData → Type 0
 MakesFirstTurn planned tree t = (knobs : Knobs) (now : Position) (mover : Colour)
-    → winner_of now ≡ None → IsPlanned now mover false planned
+    → winner_of now ≡ None → IsPlanned now mover no_means planned
     → IsTurnShape knobs now mover 0 tree.shape.allowed tree.shape → IsSequential knobs tree
-    → IsFirstTurn knobs now mover t
+    → IsFirstTurn knobs no_means now mover t
 
--- what is searched for that turn: all empty cells are allowed
+-- what is searched for a first turn without connections: all empty cells are allowed
 abbrev pub first_setting : Knobs → Position → Colour → Setting
 first_setting knobs now mover = record {
   board = now;
@@ -62,10 +61,10 @@ abbrev pub FollowsSchedule : ModeOptions → TurnData → Type 0
 FollowsSchedule o t = (tree : ClosedTree) × (t.closed ≡ Some tree) × EndsSchedule tree.shape
     (schedule_of o.knobs.workers o.knobs.seed o.steps) tree.words
 
--- the turn is that of the board without stones, with Black to move, and the text is that of the
--- turn; with one worker the options determine it
+-- the turn is that of the board without stones, with Black to move, and without means; the text is
+-- that of the turn, and with one worker the options determine it
 pub record IsSimulation (o : ModeOptions) (t : TurnData) (text : List ℕ) : Type 0 where
-  pub turn : IsFirstTurn o.knobs (empty_board o.size) Black t
+  pub turn : IsFirstTurn o.knobs no_means (empty_board o.size) Black t
   pub says : (report : List ℕ) × (report_of t ≡ Some report)
       × (text ≡ sim_text o.size t.cell report)
   pub one : o.knobs.workers ≡ 1
@@ -84,11 +83,11 @@ bench_board o = board_on o.size (shuffled_cells o.size o.knobs.seed) (bench_ston
 abbrev pub bench_player : ModeOptions → Colour
 bench_player o = mover_after (bench_stones o)
 
--- the turn is that of the position, the text is that of the turn, and the options determine it
+-- the turn is that of the position, with the means of bench, and the text is that of the turn; if
+-- no connections are looked for the options determine it
 pub record IsBenchmark (o : ModeOptions) (t : TurnData) (text : List ℕ) : Type 0 where
-  pub turn : IsFirstTurn o.knobs (bench_board o) (bench_player o) t
-  pub says : (tree : ClosedTree) × (t.closed ≡ Some tree)
-      × (text ≡ bench_text o.size (bench_stones o) o.knobs (records_in tree)
-      (rows_of tree.shape tree.words) t.cell)
-  pub determined : text ≡ (let rows = first_rows o.knobs (bench_board o) (bench_player o) in
+  pub turn : IsFirstTurn o.knobs o.means (bench_board o) (bench_player o) t
+  pub says : text ≡ turn_text o.size (bench_stones o) o.knobs t.cell t.closed
+  pub determined : o.means.hsearch ≡ false
+      → text ≡ (let rows = first_rows o.knobs (bench_board o) (bench_player o) in
       bench_text o.size (bench_stones o) o.knobs o.knobs.playouts rows (best_cell rows))

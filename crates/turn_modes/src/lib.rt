@@ -5,7 +5,7 @@
 //! Both are drawn from the seed. A [`TurnMode`] says which of the two modes it is, and what it is
 //! told are its [`ModeOptions`].
 //!
-//! **A caller** calls [`hand_in`] with the mode and the devices of a run. The turn is searched and
+//! **A caller** calls [`hand_in`] with the mode and the devices of a run. The turn is decided and
 //! its text made; then the archive takes the turn, and the link the text:
 //!
 //! ```text
@@ -13,12 +13,13 @@
 //! ```
 //!
 //! **What is proved**, in the words of specs/OneTurn.antt and specs/HandingIn.antt: after success
-//! the archive has exactly one turn more, if it tells; the turn is good for a session that looks
-//! for no connections, and has number 0. In sim it is that of the board without stones, with Black
-//! to move, and its tree is that of the schedule. In bench it is that of the position, whose stones
-//! are the longest prefix of a third of the shuffled cells of which none joins its player. The text
-//! is that of the turn. In bench, and in sim with one worker, the options determine it. At a write
-//! fault a prefix of it was given; at an archive fault or out of memory nothing was, and the
+//! the archive has exactly one turn more, if it tells; the turn is good and has number 0. In sim it
+//! is that of the board without stones, with Black to move, for a session that looks for no
+//! connections, and its tree is that of the schedule. In bench it is that of the position, for a
+//! session with the means of bench; the position's stones are the longest prefix of a third of the
+//! shuffled cells of which none joins its player. The text is that of the turn: of its tree, or of
+//! a win. In bench without connections, and in sim with one worker, the options determine it. At a
+//! write fault a prefix of it was given; at an archive fault or out of memory nothing was, and the
 //! archive has the same turns. Counts of faults rise exactly with their errors, and nothing is read
 //! or fetched.
 //!

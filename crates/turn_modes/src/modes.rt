@@ -23,7 +23,8 @@ pub enum TurnMode {
     /// It searches the board without stones, with Black to move, by simulated workers whose
     /// schedule is drawn from the seed.
     Sim,
-    /// It searches the position that the seed and the size make, by a team of workers.
+    /// It decides the turn of the position that the seed and the size make, with its means, and by
+    /// a team of workers if it is searched.
     Bench,
 }
 
@@ -34,7 +35,7 @@ struct ToldTurn {
     text: Vec<u8>,
 }
 
-/// Searches the position of the mode, submits the turn to the archive, and gives its text.
+/// Decides the turn of the mode's position, submits it to the archive, and gives its text.
 ///
 /// `Archive` and `Write` come only if the archive or the link counted that fault. It refuses
 /// otherwise only if memory runs out, before the turn is submitted. It reads nothing, and fetches
@@ -101,7 +102,7 @@ fn benchmark<R: Threads + Sync, G: Gate + Sync>(
     ensures { IfOk result (λ told. IsTurnOf TurnMode.Bench options.now told.turn told.text.items) }
 {
     let position = bench_position(options.size, options.knobs.seed);
-    let turn = benchmarked_turn(rt, alloc, &position, &options.knobs, gate)?;
+    let turn = benchmarked_turn(rt, alloc, &position, options, gate)?;
     let text = bench_text(alloc, &options.knobs, position.stones, &turn)?;
     Ok(ToldTurn { turn, text })
 }

@@ -1,6 +1,7 @@
 //! What the modes are told.
 
 use hex_cells::Size;
+use hex_plan::Means;
 use tree_words::Knobs;
 
 /// What the modes sim and bench are asked for.
@@ -13,4 +14,6 @@ pub struct ModeOptions {
     pub knobs: Knobs,
     /// How many steps the schedule of sim has.
     pub steps: u32,
+    /// By what means bench chooses its cell, beside the tree's search. Sim uses none.
+    pub means: Means,
 }

@@ -1,4 +1,4 @@
-//! The turns of the modes: that of sim by a schedule, and that of bench by a team.
+//! The turns of the modes: that of sim by a schedule, and that of bench as a session's.
 
 ghost use Rattle.std.specs.Prelude.{◌≡◌, ◌<◌, ℕ, None, Some, false, true, IfOk, All};
 ghost use Rattle.hex_cells.specs.declared.colours.Colour.TheVariants.{Black};
@@ -8,8 +8,9 @@ ghost use Rattle.tree_words.specs.Sequence.{seq_of};
 ghost use Rattle.tree_words.specs.Settings.{AreInRange};
 ghost use Rattle.tree_words.specs.Trees.{IsTreeOf};
 ghost use Rattle.sim_run.specs.BetweenSteps.{EndsSchedule};
-ghost use Rattle.hex_plan.specs.Good.{IsTurnShape};
-ghost use Rattle.hex_plan.specs.Plans.{IsPlanned, IsSearchAmong};
+ghost use Rattle.hex_plan.specs.Good.{IsTurnShape, no_means};
+ghost use Rattle.hex_plan.specs.Plans.{IsPlanned};
+ghost use Rattle.hex_plan.specs.Turns.{IsSearchedBy};
 ghost use Rattle.turn_modes.specs.OneTurn.{FollowsSchedule, IsFirstTurn, MakesFirstTurn};
 
 use super::options::ModeOptions;
@@ -17,7 +18,7 @@ use super::positions::BenchPosition;
 use super::schedules::schedule;
 use hex_board::Board;
 use hex_cells::Colour;
-use hex_plan::{Memory, Planned, Turn, plan, turn_shape};
+use hex_plan::{Means, Memory, Planned, Turn, plan, turn_shape};
 use search_team::Gate;
 use sim_run::{SimError, simulate};
 use std::alloc::Global;
@@ -37,12 +38,12 @@ fn prepare(alloc: Global, board: &Board, colour: Colour, knobs: &Knobs) -> Resul
     requires nobody { winner_of board.now ≡ None }
     requires room { (k : ℕ) × (is_empty_at board.now k ≡ true) }
     requires ranges { AreInRange knobs.now }
-    ensures planned { IfOk result (λ p. IsPlanned board.now colour false p.planned) }
-    ensures among { IfOk result (λ p. IsSearchAmong p.planned.plan p.shape.allowed) }
+    ensures planned { IfOk result (λ p. IsPlanned board.now colour no_means p.planned) }
+    ensures among { IfOk result (λ p. IsSearchedBy p.planned.plan None p.shape.allowed) }
     ensures shape { IfOk result
         (λ p. IsTurnShape knobs.now board.now colour 0 p.shape.allowed p.shape) }
 {
-    let planned = plan(alloc, board, colour, false)?;
+    let planned = plan(alloc, board, colour, Means::none())?;
     let Some(allowed) = planned.allowed() else {
         unreachable!();
     };
@@ -52,11 +53,11 @@ fn prepare(alloc: Global, board: &Board, colour: Colour, knobs: &Knobs) -> Resul
 
 // The turn of this tree, which was searched as prepared.
 fn decide(planned: Planned, closed: Closed) -> Turn
-    requires { IsSearchAmong planned.plan closed.shape.allowed }
+    requires { IsSearchedBy planned.plan None closed.shape.allowed }
     ensures closed { result.closed ≡ Some closed }
     ensures first { MakesFirstTurn planned closed result }
 {
-    Turn::searched(closed, 0, planned)
+    Turn::searched(closed, 0, planned, None)
 }
 
 // The tree that the workers of the shape make along a schedule of their numbers.
@@ -78,7 +79,7 @@ fn follow(alloc: Global, shape: &Shape, list: &[u8]) -> Result<Closed, Memory>
 pub fn simulated_turn(alloc: Global, options: &ModeOptions) -> Result<Turn, Memory>
     requires { AreInRange options.now.knobs }
     ensures turn { IfOk result
-        (IsFirstTurn options.now.knobs (empty_board options.now.size) Black) }
+        (IsFirstTurn options.now.knobs no_means (empty_board options.now.size) Black) }
     ensures scheduled { IfOk result (FollowsSchedule options.now) }
 {
     let knobs = &options.knobs;
@@ -89,18 +90,20 @@ pub fn simulated_turn(alloc: Global, options: &ModeOptions) -> Result<Turn, Memo
     Ok(decide(prepared.planned, closed))
 }
 
-/// The turn of mode bench on its position, by a team.
+/// The turn of mode bench on its position, with the means of bench: the first that a session with
+/// these means owes there.
 pub fn benchmarked_turn<R: Threads + Sync, G: Gate + Sync>(
     rt: &R,
     alloc: Global,
     position: &BenchPosition,
-    knobs: &Knobs,
+    options: &ModeOptions,
     gate: &G,
 ) -> Result<Turn, Memory>
     requires nobody { winner_of position.now.board ≡ None }
     requires room { (k : ℕ) × (is_empty_at position.now.board k ≡ true) }
-    requires ranges { AreInRange knobs.now }
-    ensures { IfOk result (IsFirstTurn knobs.now position.now.board position.now.colour) }
+    requires ranges { AreInRange options.now.knobs }
+    ensures { IfOk result (IsFirstTurn options.now.knobs options.now.means
+        position.now.board position.now.colour) }
 {
     decided_turn(
         rt,
@@ -108,8 +111,8 @@ pub fn benchmarked_turn<R: Threads + Sync, G: Gate + Sync>(
         &position.board,
         position.colour,
         0,
-        knobs,
-        false,
+        &options.knobs,
+        options.means,
         gate,
     )
 }

@@ -1,6 +1,6 @@
 //! The texts of modes sim and bench.
 
-ghost use Rattle.std.specs.Prelude.{◌≡◌, ◌*◌, ◌<◌, ◌++◌, IfOk, OnOk, IsSome, codes};
+ghost use Rattle.std.specs.Prelude.{◌≡◌, ◌*◌, ◌<◌, ◌++◌, IfOk, OnOk, IsSome};
 ghost use Rattle.hex_cells.specs.Vertices.{vertex_of};
 ghost use Rattle.tree_words.specs.Roots.{rows_of};
 ghost use Rattle.turn_modes.specs.ModeTexts.{best_line, number_line};
@@ -13,13 +13,12 @@ use hex_plan::{Turn, turn_texts};
 use std::alloc::{AllocError, Global};
 use tree_words::{Closed, Knobs, Row, report};
 
-// Writes `best` and the vertex of a cell of the board.
-fn push_best(text: &mut Vec<u8>, cell: Cell, size: Size) -> Result<(), AllocError>
+// Writes a word and the vertex of a cell of the board.
+fn push_vertex(text: &mut Vec<u8>, word: &[u8], cell: Cell, size: Size) -> Result<(), AllocError>
     requires { cell < size * size }
-    ensures { OnOk result
-        (text.new.items ≡ text.old.items ++ codes "best " ++ vertex_of size cell) }
+    ensures { OnOk result (text.new.items ≡ text.old.items ++ word.now ++ vertex_of size cell) }
 {
-    text.extend_from_slice(b"best ")?;
+    text.extend_from_slice(word)?;
     let mut vertex = [0; VERTEX_LEN];
     let length = write_vertex(cell, size, &mut vertex);
     text.extend_from_slice(&vertex[..length])
@@ -62,31 +61,32 @@ pub fn sim_text(alloc: Global, turn: &Turn) -> Result<Vec<u8>, AllocError>
         unreachable!();
     };
     let mut text = Vec::new(alloc);
-    push_best(&mut text, turn.cell(), turn.board().size())?;
+    push_vertex(&mut text, b"best ", turn.cell(), turn.board().size())?;
     text.push(b'\n')?;
     text.extend_from_slice(report)?;
     text.push(b'\n')?;
     Ok(text)
 }
 
-/// The text of mode bench for a tree, the best cell of its board, and how many stones were placed
-/// there.
+/// The text of mode bench for a turn on a board with so many stones placed: of its tree, and, with
+/// one worker, of its cell; without a tree, of the win and its cell.
 pub fn bench_text(
     alloc: Global,
     knobs: &Knobs,
     stones: u32,
     turn: &Turn,
 ) -> Result<Vec<u8>, AllocError>
-    requires { IsSome turn.now.closed }
     ensures { IfOk result (λ text. TellsBench knobs.now stones turn.now text.items) }
 {
-    let Some(closed) = turn.closed() else {
-        unreachable!();
-    };
     let size = turn.board().size();
     let mut text = Vec::new(alloc);
     push_line(alloc, &mut text, b"size ", size.get() as usize)?;
     push_line(alloc, &mut text, b"stones ", stones as usize)?;
+    let Some(closed) = turn.closed() else {
+        push_vertex(&mut text, b"win ", turn.cell(), size)?;
+        text.push(b'\n')?;
+        return Ok(text);
+    };
     push_line(alloc, &mut text, b"playouts ", knobs.playouts as usize)?;
     push_line(alloc, &mut text, b"records ", count_records(closed))?;
     if knobs.workers == 1 {
@@ -110,6 +110,6 @@ fn push_best_line(
     let Ok(rows) = report(alloc, closed) else {
         return Err(AllocError);
     };
-    push_best(text, cell, size)?;
+    push_vertex(text, b"best ", cell, size)?;
     push_line(alloc, text, b" ", visits_of(&rows, cell) as usize)
 }

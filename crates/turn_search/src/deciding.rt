@@ -1,22 +1,26 @@
 //! The turn that is owed on a board.
 
-ghost use Rattle.std.specs.Prelude.{◌≡◌, true, IfOk};
+ghost use Rattle.std.specs.Prelude.{◌≡◌, true, IfOk, is_some};
+ghost use Rattle.hex_plan.specs.Good.{looks_ahead};
 ghost use Rattle.hex_plan.specs.Openings.{may_move};
-ghost use Rattle.tree_words.specs.Settings.{AreInRange};
+ghost use Rattle.hex_plan.specs.Turns.{ChoseAmong, searched_cells};
+ghost use Rattle.tree_words.specs.Settings.{AreInRange, IsAny};
 ghost use Rattle.turn_search.specs.Owed.{IsOwed};
 
 use hex_board::Board;
-use hex_cells::Colour;
-use hex_plan::{Memory, Turn, plan, turn_shape};
+use hex_cells::{CellSet, Colour};
+use hex_plan::{Means, Memory, Planned, Turn, plan, turn_shape};
+use look_ahead::{Look, Looked, Root};
 use search_team::{Gate, search};
 use std::alloc::Global;
 use std::thread::Threads;
 use tree_words::Knobs;
 
-/// The turn after so many `turns` of a session, on this board with `colour` to move. It is planned,
-/// with a look for connections (`hsearch`) or without. If the plan is no win, it is searched among
-/// the cells that the plan allows, by the workers of the knobs, which pass the gate. The search's
-/// seed is that of the knobs plus `turns·2^32`, modulo 2^64.
+/// The turn after so many `turns` of a session, on this board with `colour` to move. It is planned
+/// with these means. If the plan is no win, it is searched among the cells that the plan allows, by
+/// the workers of the knobs, which pass the gate; or, if the means have a look-ahead, at the one of
+/// these cells that this chooses. The search's seed is that of the knobs plus `turns·2^32`, modulo
+/// 2^64.
 ///
 /// No player is joined on the board, a cell is empty, and the knobs are in their ranges. It refuses
 /// only if memory runs out. The call returns if its workers do.
@@ -27,20 +31,66 @@ pub fn decided_turn<R: Threads + Sync, G: Gate + Sync>(
     colour: Colour,
     turns: u64,
     knobs: &Knobs,
-    hsearch: bool,
+    means: Means,
     gate: &G,
 ) -> Result<Turn, Memory>
     requires may { may_move board.now ≡ true }
     requires ranges { AreInRange knobs.now }
-    ensures { IfOk result (IsOwed knobs.now hsearch board.now colour turns) }
+    ensures { IfOk result (IsOwed knobs.now means board.now colour turns) }
 {
-    let planned = plan(alloc, board, colour, hsearch)?;
+    let planned = plan(alloc, board, colour, means)?;
     let Some(allowed) = planned.allowed() else {
         return Ok(Turn::won(board, colour, turns, planned));
     };
-    let shape = turn_shape(board, colour, allowed, knobs, turns);
+    let looked = looked_at(alloc, board, colour, &planned, allowed, means)?;
+    let cells = searched_cells(allowed, &looked);
+    let shape = turn_shape(board, colour, cells, knobs, turns);
     let Ok(closed) = search(rt, alloc, &shape, gate) else {
         return Err(Memory);
     };
-    Ok(Turn::searched(closed, turns, planned))
+    Ok(Turn::searched(closed, turns, planned, looked))
+}
+
+// What a look-ahead finds of the allowed cells, if the means have one.
+fn looked_at(
+    alloc: Global,
+    board: &Board,
+    colour: Colour,
+    planned: &Planned,
+    allowed: CellSet,
+    means: Means,
+) -> Result<Option<Looked>, Memory>
+    requires { IsAny allowed }
+    ensures there { IfOk result (λ looked. is_some looked ≡ looks_ahead means) }
+    ensures chosen { IfOk result (ChoseAmong allowed) }
+{
+    if !means.looks_ahead() {
+        return Ok(None);
+    }
+    let Ok(mut look) = Look::make(alloc) else {
+        return Err(Memory);
+    };
+    let root = Root {
+        board,
+        colour,
+        own: planned.own.as_ref(),
+        other: planned.other.as_ref(),
+    };
+    match look.choose(alloc, &root, allowed, means.look) {
+        Ok(looked) => Ok(Some(looked)),
+        Err(_) => Err(Memory),
+    }
+}
+
+// The cells that are searched if these are allowed: all, or the one that the look-ahead chose.
+fn searched_cells(allowed: CellSet, looked: &Option<Looked>) -> CellSet
+    requires any { IsAny allowed }
+    requires chosen { ChoseAmong allowed looked.now }
+    ensures value { result ≡ searched_cells allowed looked.now }
+    ensures any { IsAny result }
+{
+    match looked {
+        None => allowed,
+        Some(looked) => CellSet::none().with(looked.cell()),
+    }
 }

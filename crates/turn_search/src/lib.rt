@@ -4,7 +4,7 @@
 //! settings, and gets the turn that is owed there:
 //!
 //! ```text
-//! let turn = decided_turn(rt, alloc, board, colour, turns, &knobs, hsearch, &gate)?;
+//! let turn = decided_turn(rt, alloc, board, colour, turns, &knobs, means, &gate)?;
 //! ```
 //!
 //! **What is proved.** The turn is the one that a session with these settings owes

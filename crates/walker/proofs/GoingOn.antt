@@ -1,5 +1,5 @@
 -- With an answer that may be given the walker can go on.
-use Rattle.std.proofs.Common.{◌≡◌, ◌⊎◌, ℕ, ◌+◌, ◌-◌, ◌<◌, ◌≤◌, true, List, [], ◌∷◌}
+use Rattle.std.proofs.Common.{◌≡◌, ℕ, ◌+◌, ◌-◌, ◌<◌, ◌≤◌, true, List, [], ◌∷◌}
 use Rattle.std.proofs.Common.{length, take, refl, ap, subst, arith, ⊎_elim}
 use Rattle.std.proofs.Math.Nat.{eq-zero-or-pos}
 use Rattle.hex_cells.specs.Sets.{has as has_cell}
@@ -59,7 +59,8 @@ module _ (w : Walker) (v : SeatView) (b : Belongs w v) (x : ℕ) where
 
   link-small : (y : ℕ) → AnswersLink v y x → x < PAST_WORDS
   link-small y a = ⊎_elim
-      (λ (e : known_link v y ≡ 0). ⊎_elim (λ (z : x ≡ 0). omega (arith, z)) (λ (m : MayLieBelow v y x). let q = m.inside in omega (arith, q, small-end)) (a.other e))
+      (λ (e : known_link v y ≡ 0). ⊎_elim (λ (z : x ≡ 0). omega (arith, z))
+      (λ (m : MayLieBelow v y x). let q = m.inside in omega (arith, q, small-end)) (a.other e))
       (λ (l : 0 < known_link v y).
       let q = link-block v.known y l in
       let lies = block-small q.0 q.1 in

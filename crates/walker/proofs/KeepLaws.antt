@@ -1,5 +1,5 @@
 -- A scan keeps the child that Choice takes of those that it has looked at.
-use Rattle.std.proofs.Common.{◌≡◌, ◌≢◌, ◌⊎◌, ℕ, ◌+◌, ◌<◌, ◌≤◌, Bool, true, false, cond}
+use Rattle.std.proofs.Common.{◌≡◌, ◌≢◌, ℕ, ◌+◌, ◌<◌, ◌≤◌, Bool, true, false, cond}
 use Rattle.std.proofs.Common.{List, [], ◌∷◌, ◌++◌, length, get_or, Some, refl, sym, ap, ◌∙◌, subst}
 use Rattle.std.proofs.Common.{arith, ⊎_elim, append_assoc}
 use Rattle.std.specs.Prelude.{◌==◌, nat_lt, slice_get}
@@ -101,10 +101,27 @@ module _ (d : ScanData) (c : Child) (at : ℕ) (p : Phase) where
       let one : d.place + 1 ≡ 1 = omega (arith, h.0) in
       ⊎_elim
       (λ (z : c.visits ≡ 0). subst goal (sym (kept-new d c e z))
-      (first-child (record d { best = d.place; visits = 0; fresh = true; at = at; phase = p; place = d.place + 1 }) h.0 one (sym z) (λ t. refl) (λ t. absurd (cc))))
+      (first-child (record d {
+        best = d.place;
+        visits = 0;
+        fresh = true;
+        at = at;
+        phase = p;
+        place =
+            d.place + 1;
+      }) h.0 one (sym z) (λ t. refl) (λ t. absurd (cc))))
       (λ (z : 0 < c.visits). ⊎_elim
       (λ (l : d.most < score_in d.parent d.weight c). subst goal (sym (kept-better d c e z l))
-      (first-child (record d { best = d.place; visits = c.visits; most = score_in d.parent d.weight c; at = at; phase = p; place = d.place + 1 }) h.0 one refl (λ t. absurd (cc)) (λ t. (z, refl))))
+      (first-child (record d {
+        best = d.place;
+        visits = c.visits;
+        most = score_in d.parent d.weight
+            c;
+        at = at;
+        phase = p;
+        place = d.place + 1;
+      }) h.0 one refl (λ t. absurd (cc))
+      (λ t. (z, refl))))
       (λ (l : score_in d.parent d.weight c ≤ d.most). subst goal (sym (kept-first d c e z l h.0))
       (first-child (record d { visits = c.visits; at = at; phase = p; place = d.place + 1 }) h.1 one refl (λ t. absurd (cc)) (λ t. (z, omega (arith, l, h.2)))))
       (cases_lt d.most (score_in d.parent d.weight c)))
@@ -162,7 +179,9 @@ module _ (d : ScanData) (c : Child) (at : ℕ) (p : Phase) where
       let better = is_better-visited d.parent d.weight h.child c some z in
       ⊎_elim
       (λ (l : d.most < score_in d.parent d.weight c). subst goal (sym (kept-better d c f z l))
-      (new-child xs h long (better ∙ lt-ltb (score_in d.parent d.weight h.child) (score_in d.parent d.weight c) (omega (arith, l, s.1))) c.visits (score_in d.parent d.weight c) d.fresh refl (λ t. absurd (cc)) (λ t. (z, refl))))
+      (new-child xs h long (better ∙ lt-ltb (score_in d.parent d.weight h.child) (score_in d.parent
+      d.weight c) (omega (arith, l, s.1))) c.visits (score_in d.parent d.weight c) d.fresh refl
+      (λ t. absurd (cc)) (λ t. (z, refl))))
       (λ (l : score_in d.parent d.weight c ≤ d.most). subst goal (sym (kept-not d c f z l later))
       (old-child xs h (better ∙ le-ltb (score_in d.parent d.weight h.child) (score_in d.parent d.weight c) (omega (arith, l, s.1)))))
       (cases_lt d.most (score_in d.parent d.weight c)))

@@ -22,6 +22,7 @@ use Rattle.walker.specs.declared.stages.Stage.TheVariants.{Rooting, Tallying, Se
 use Rattle.walker.specs.declared.machine.Walker.{Walker}
 use Rattle.walker.specs.Machine.{drawn, rooted, on_way_up}
 use Rattle.walker.specs.Belongs.{Belongs, IsDown, Climbs, Leaves, adds_above, AtDraw, AtRoot}
+use Rattle.walker.specs.Belongs.{AreSeen}
 use Rattle.walker.proofs.KnownLaws.{one-order}
 use Rattle.walker.proofs.Going.{look-tally}
 use Rattle.walker.proofs.Cases.{drawn-begins, drawn-ends}
@@ -121,7 +122,9 @@ module _ (w : Walker) (v : SeatView) (b : Belongs w v) (x : ℕ) where
       width = b.width;
       full = b.full;
       stands = record {
-        down = subst (λ (s : Setting). IsDown w.number (root_at s) (visits_in x) (record { board = s.board; player = s.player }) [] (after v (Look w.at) x)) b.shape root-down;
+        down = subst (λ (s : Setting). IsDown w.number (root_at s) (visits_in x)
+            (record { board = s.board; player = s.player }) [] (after v (Look w.at) x)) b.shape
+            root-down;
         held = a.held;
         at = refl;
       };
@@ -146,26 +149,56 @@ module _ (w : Walker) (v : SeatView) (b : Belongs w v) (x : ℕ) where
 pub up-belongs : (w : Walker) (u : SeatView) (climb : List CountAdd) → u.shape ≡ w.shape → IsView u
     → u.width ≡ 1 → u.full ≡ w.full
     → w.climb ≡ climb → Climbs w u → (f : Flight) → u.adds ≡ Some f
-    → Leaves w u (Some f) (climb ++ adds_above w u) → Belongs (on_way_up climb w) u
-up-belongs w u [] s iv one full e c f k l = record {
+    → Leaves w u (Some f) (climb ++ adds_above w u) → AreSeen u climb
+    → Belongs (on_way_up climb w) u
+up-belongs w u [] s iv one full e c f k l seen = record {
   shape = s;
   view = iv;
   width = one;
   full = full;
   stands = record {
-    climbs = record { up = record { hand = record { ended = c.up.hand.ended; ticket = c.up.hand.ticket }; held = c.up.held; leaf = c.up.leaf; ending = c.up.ending }; player = c.player; way = c.way };
+    climbs = record {
+      up = record {
+        hand = record {
+          ended = c.up.hand.ended;
+          ticket =
+              c.up.hand.ticket;
+        };
+        held = c.up.held;
+        leaf = c.up.leaf;
+        ending = c.up.ending;
+      };
+      player =
+          c.player;
+      way = c.way;
+    };
     at = refl;
     left = subst (λ (o : Option Flight). Leaves (record w { stage = Tallying; at = w.node + 2 }) u o (adds_above w u)) (sym k) l;
   };
 }
-up-belongs w u (a ∷ climb) s iv one full e c f k l = record {
+up-belongs w u (a ∷ climb) s iv one full e c f k l seen = record {
   shape = s;
   view = iv;
   width = one;
   full = full;
   stands = record {
-    climbs = record { up = record { hand = record { ended = c.up.hand.ended; ticket = c.up.hand.ticket }; held = c.up.held; leaf = c.up.leaf; ending = c.up.ending }; player = c.player; way = c.way };
+    climbs = record {
+      up = record {
+        hand = record {
+          ended = c.up.hand.ended;
+          ticket =
+              c.up.hand.ticket;
+        };
+        held = c.up.held;
+        leaf = c.up.leaf;
+        ending = c.up.ending;
+      };
+      player =
+          c.player;
+      way = c.way;
+    };
     some = λ z. cons-none a climb (sym e ∙ z);
+    seen = subst (AreSeen u) (sym e) seen;
     flight = f;
     adds = k;
     left = subst (λ (cs : List CountAdd). Leaves (record w { stage = Seeing }) u (Some f) (cs ++ adds_above w u)) (sym e) l;

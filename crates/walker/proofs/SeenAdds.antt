@@ -4,7 +4,7 @@ use Rattle.std.proofs.Common.{[], ◌∷◌, ◌++◌, length, map, ◌-◌, ◌
 use Rattle.std.proofs.Common.{arith, ⊎_elim}
 use Rattle.std.specs.Prelude.{◌&&◌, ◌==◌, not, nat_lt, count_ones}
 use Rattle.std.specs.List.{filter, range_with_len}
-use Rattle.std.proofs.lemmas.Bool.{cases_Bool, eqb-true}
+use Rattle.std.proofs.lemmas.Bool.{cases_Bool}
 use Rattle.std.proofs.lemmas.Bool.Decides.{nat_tests}
 use Rattle.std.proofs.lemmas.List.{map-append}
 use Rattle.hex_cells.specs.Sets.{has as has_cell, members}
@@ -66,7 +66,8 @@ moved f g p q d a (suc n) same is =
     = ap (λ (z : ℕ). map f (filter p (range_with_len z n))) (shift d a)
     ∙ moved f g p q d (a + 1) n (λ i l m. same i (omega arith) (omega arith))
     (λ i l m. is i (omega arith) (omega arith)) in
-    ap (λ (t : Bool). map f (cond t ((d + a) ∷ filter p (range_with_len (d + a + 1) n)) (filter p (range_with_len (d + a + 1) n)))) (same a (omega arith) (omega arith))
+    ap (λ (t : Bool). map f (cond t ((d + a) ∷ filter p (range_with_len (d + a + 1) n))
+    (filter p (range_with_len (d + a + 1) n)))) (same a (omega arith) (omega arith))
     ∙ first (q a) (d + a) a (filter p (range_with_len (d + a + 1) n))
     (filter q (range_with_len (a + 1) n)) (is a (omega arith) (omega arith)) rest
   where
@@ -112,7 +113,11 @@ module _ (stones cells left b : ℕ) (won : Bool) where
       ∙ join (has_cell stones a) (has_cell left a)
       (here ∙ ap (λ (u : Bool). u && has_cell stones a) t)
       (record { word = y + 3; won = won }) (seen_adds stones won (y + 4) cs) a is
-      (let w : y + 3 ≡ b + 3 + 4 * members cells a = omega arith in λ i. record { word = w i; won = won }) (ap (λ (z : ℕ). seen_adds stones won z cs) on ∙ rest))
+      (let w : y + 3 ≡ b + 3 + 4 * members cells a = omega arith in λ i. record {
+        word = w i;
+        won =
+            won;
+      }) (ap (λ (z : ℕ). seen_adds stones won z cs) on ∙ rest))
       (λ (t : has_cell cells a ≡ false).
       let on : y ≡ b + 4 * members cells (a + 1) = omega (arith, out-more cells a t) in
       ap (λ (u : Bool). seen_adds stones won y (cond u (a ∷ cs) cs)) t
@@ -159,7 +164,8 @@ adds-seen stones cells left n block first next won few here is on =
     (λ i l m. let w : block + 4 + 3 + 4 * members cells (64 + i) ≡ next + 4 * members (cells / 2 ^ 64) i
     = omega (arith, is, on, members-high cells 64 i, members_ones cells 64) in
     λ j. record { word = w j; won = won }) in
-    sym (all ∙ (ap (map f) long ∙ (map-append f (filter (has_cell left) (range_with_len 0 64)) (filter (has_cell left) (range_with_len (0 + 64) 64)) ∙ (λ i. low i ++ high i))))
+    sym (all ∙ (ap (map f) long ∙ (map-append f (filter (has_cell left) (range_with_len 0 64))
+    (filter (has_cell left) (range_with_len (0 + 64) 64)) ∙ (λ i. low i ++ high i))))
   where
     none-plus : (i : ℕ) → 0 + i ≡ i
     none-plus i = omega arith

@@ -2,7 +2,7 @@
 pub use Rattle.walker.specs.Underway.{IsLevel, OnWay, HasNumber, IsDown, Down, IsBelow, MayClaim}
 pub use Rattle.walker.specs.Looking.{HasKept, KeepsBest, children_loaded, InChild, IsScan}
 use Rattle.std.specs.Prelude.{◌≡◌, ◌≢◌, ℕ, ◌+◌, ◌-◌, ◌<◌, ◌≤◌, true, List, [], ◌++◌, length, take}
-use Rattle.std.specs.Prelude.{drop, Option, Some, None, ◌⊎◌}
+use Rattle.std.specs.Prelude.{drop, Option, Some, None, ◌⊎◌, Contains}
 use Rattle.tree_words.specs.Words.{root_at}
 use Rattle.tree_words.specs.Blocks.{LinkedBlock}
 use Rattle.tree_words.specs.Paths.{node_state}
@@ -12,9 +12,11 @@ use Rattle.arena_rule.specs.Views.{SeatView, Flight}
 use Rattle.arena_rule.specs.Adds.{CountAdd, adds_up, walk_adds}
 use Rattle.arena_rule.specs.Lookups.{is_known, known_link, empties_at}
 use Rattle.arena_rule.specs.Fits.{MayBegin, block_words}
+use Rattle.arena_rule.specs.Afters.{after}
 use Rattle.arena_rule.specs.Answers.{MayAnswer}
 use Rattle.arena_rule.specs.IsView.{IsView}
-use Rattle.walker.specs.Machine.{op_of, state_in, own_block}
+use Rattle.arena_rule.specs.Owing.{IsSeenWord}
+use Rattle.walker.specs.Machine.{op_of, next, state_in, own_block}
 use Rattle.walker.specs.declared.stages.Stage.{Stage}
 use Rattle.walker.specs.declared.stages.Stage.TheVariants.{Drawing, Rooting, Linking, Heading}
 use Rattle.walker.specs.declared.stages.Stage.TheVariants.{Scanning, Claiming, Writing, Publishing}
@@ -112,9 +114,14 @@ pub record AtTally (w : Walker) (v : SeatView) : Type 0 where
   pub at : w.at ≡ w.node + TALLY_WORD
   pub left : Leaves w v v.adds (adds_above w v)
 
+-- the adds are at seen words of known nodes
+abbrev pub AreSeen : SeatView → List CountAdd → Type 0
+AreSeen v climb = (a : CountAdd) → Contains climb a → IsSeenWord v a.word
+
 pub record AtSeen (w : Walker) (v : SeatView) : Type 0 where
   pub climbs : Climbs w v
   pub some : w.climb ≢ []
+  pub seen : AreSeen v w.climb
   pub flight : Flight
   pub adds : v.adds ≡ Some flight
   pub left : Leaves w v (Some flight) (w.climb ++ adds_above w v)
@@ -154,3 +161,11 @@ pub record Belongs (w : Walker) (v : SeatView) : Type 0 where
 -- the answer is one that the walker's next step may give, by a view that belongs to it
 abbrev pub MayGet : Walker → ℕ → Type 0
 MayGet w x = (v : SeatView) × Belongs w v × MayAnswer v (op_of w) x
+
+-- The walker w with its view v makes its next step: the answer is one that the step may give, and
+-- both are afterwards what they are after it.
+pub record MakesStep (w : Walker) (v : SeatView) (later : Walker) (view : SeatView) : Type 0 where
+  pub answer : ℕ
+  pub may : MayAnswer v (op_of w) answer
+  pub walker_is : later ≡ next w answer
+  pub view_is : view ≡ after v (op_of w) answer

@@ -54,7 +54,7 @@ edges_win base kind c m g =
     (λ t i l. subst (λ z. Joined z base.player t) (scope_size base.board base.player 0) (links_join e t (λ k h. i k (no_scope_stones base k h)) l))
     (sure_wider (members c 121) (members c 121) kind G (stones_of e.board base.player) s c c (linked_kept e (edge_element e false) (edge_element e true)) (omega arith) (no_scope_stones base) (same c) g.holds))
 
-some_named : (s : Statement) (o : Option ScopedEntry) → may_take s o ≡ true
+pub some_named : (s : Statement) (o : Option ScopedEntry) → may_take s o ≡ true
     → (a : ScopedEntry) × (cons_option o [] ≡ a ∷ [])
 some_named s None h = absurd (false≢true h)
 some_named s (Some a) h = (a, refl)

@@ -44,7 +44,7 @@ past_claim [] s (suc k) l = refl
 past_claim (line ∷ lines) s zero l = absurd (omega arith)
 past_claim (line ∷ lines) s (suc k) l = past_claim lines s k (omega arith)
 
-line_clear : (cert : Cert) (k : ℕ) (line : Line) → Accepted cert
+pub line_clear : (cert : Cert) (k : ℕ) (line : Line) → Accepted cert
     → slice_get cert.lines k ≡ Some line
     → reason_against (context_at cert k) (Derivation line) ≡ None
 line_clear cert k line h e

@@ -53,6 +53,8 @@
 
 -- Laws for the layers above.
 pub mod GivenEntries
+pub mod AcceptedLaw
+pub mod ClaimedMoves
 pub mod Joining
 pub mod Stepping
 pub mod CutChains
@@ -81,7 +83,6 @@ mod Middles
 mod ChainLines
 mod CaseLines
 mod LineTruth
-mod AcceptedLaw
 mod LawVectors
 mod Options
 mod Splitting

@@ -1,7 +1,7 @@
 //! The law of accepted certificates.
 
-ghost use Rattle.std.specs.Prelude.{length};
-ghost use Rattle.win_cert.specs.Laws.{GivesTrueEntries, WinsAsClaimed};
+ghost use Rattle.std.specs.Prelude.{ℕ, length};
+ghost use Rattle.win_cert.specs.Laws.{ClaimsMove, GivesTrueEntries, WinsAsClaimed, WinsByCell};
 ghost use Rattle.win_cert.specs.Verdicts.{Accepted};
 ghost use Rattle.win_cert.specs.Writable.{HasBoard};
 ghost use Rattle.win_cert.specs.declared.certs.Cert.{Cert};
@@ -15,4 +15,12 @@ pub fn accepted_certificates_win()
     ensures wins { (cert : Cert) → HasBoard cert → Accepted cert → WinsAsClaimed cert }
     ensures entries { (cert : Cert) → HasBoard cert → Accepted cert
         → GivesTrueEntries cert (length cert.lines) }
+{}
+
+/// The law of claimed moves. If a certificate is accepted and the line that it claims is a `move`,
+/// the cell of this line is empty, and its player wins after a stone there against every reply. It
+/// does nothing.
+pub fn claimed_moves_win()
+    ensures { (cert : Cert) (k : ℕ) → HasBoard cert → Accepted cert → ClaimsMove cert k
+        → WinsByCell cert k }
 {}

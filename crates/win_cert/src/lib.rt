@@ -26,7 +26,7 @@
 //! the length of the text. What the derived texts of [`CertError`] are.
 //!
 //! **Limits.** [`MOST_LINES`] lines before the claim, numbers up to [`MOST_NUMBER`], and
-//! [`MOST_CASES`] cases in a line.
+//! [`MOST_CASES`] cases in a line; [`limits_are_those_of_the_manual`] has them as numbers.
 //!
 //! Source: the rules are those of `conn_store`; scopes and cases are this project's own.
 //!
@@ -49,11 +49,13 @@
 #![tactic(auto)]
 
 mod certs;
+mod claims;
 mod cutting;
 mod edges;
 mod heads;
 mod keywords;
 mod laws;
+mod limits;
 mod lines;
 mod lists;
 mod marking;
@@ -72,9 +74,11 @@ mod words;
 mod writing;
 
 pub use certs::{Cert, FIRST_VERSION, LATEST_VERSION, MOST_LINES};
+pub use claims::claimed_move;
 pub use cutting::{cut, lines_onto};
 pub use edges::edge_numbers;
-pub use laws::accepted_certificates_win;
+pub use laws::{accepted_certificates_win, claimed_moves_win};
+pub use limits::limits_are_those_of_the_manual;
 pub use lines::{End, LEAST_CASES, Line, Lines, MOST_CASES, MOST_NUMBER};
 pub use lists::{Bytes, Numbers};
 pub use raising::raise;

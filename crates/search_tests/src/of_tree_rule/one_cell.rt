@@ -1,6 +1,6 @@
 //! Two workers on a board of one cell, step by step.
 
-ghost use Rattle.std.specs.Prelude.{◌≡◌, IfSome, true};
+ghost use Rattle.std.specs.Prelude.{◌≡◌, IfSome, true, []};
 ghost use Rattle.arena_rule.specs.Views.{opening_view};
 ghost use Rattle.arena_rule.specs.Afters.{kept_part, given_part};
 ghost use Rattle.tree_rule.specs.Seats.{IsOf};
@@ -37,6 +37,7 @@ fn walk(tree: &Tree, first: &mut TreeSeat, second: &mut TreeSeat) -> bool
     requires first { first.old.view ≡ kept_part (opening_view one_cell) 1 }
     requires second { second.old.view ≡ given_part (opening_view one_cell) 1 }
     ensures own { IsOf tree.now first.new × IsOf tree.now second.new }
+    ensures owed { (first.new.owed ≡ first.old.owed) × (second.new.owed ≡ second.old.owed) }
     ensures ended { result ≡ true → HaveEnded first.new.view second.new.view }
 {
     // The root is at word 4, its block at 8, and the cell's node at 12.
@@ -81,6 +82,7 @@ fn finish(tree: Tree, mut first: TreeSeat, second: TreeSeat) -> Closed
     requires own { IsOf tree first × IsOf tree second }
     requires shape { tree.shape ≡ one_cell }
     requires ended { HaveEnded first.view second.view }
+    requires owed { (first.owed ≡ []) × (second.owed ≡ []) }
 {
     first.join(&tree, second);
     tree.close(first)

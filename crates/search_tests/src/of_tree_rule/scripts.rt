@@ -19,6 +19,7 @@ fn make(tree: &Tree, a: &mut TreeSeat, b: &mut TreeSeat, line: &Line) -> bool
     requires fits { FitsStep (stepping (views_of a.old b.old) line.now) line.now.1 }
     requires step { line.now.1 ≢ Done }
     ensures own { IsOf tree.now a.new × IsOf tree.now b.new }
+    ensures owed { (a.new.owed ≡ a.old.owed) × (b.new.owed ≡ b.old.owed) }
     ensures views { result ≡ true
         → views_of a.new b.new ≡ after_script_line (views_of a.old b.old) line.now }
 {
@@ -35,6 +36,7 @@ pub(super) fn follow(tree: &Tree, a: &mut TreeSeat, b: &mut TreeSeat, lines: &[L
     requires own { IsOf tree.now a.old × IsOf tree.now b.old }
     requires fits { AllFit (views_of a.old b.old) lines.now }
     ensures own { IsOf tree.now a.new × IsOf tree.now b.new }
+    ensures owed { (a.new.owed ≡ a.old.owed) × (b.new.owed ≡ b.old.owed) }
     ensures views { result ≡ true
         → views_of a.new b.new ≡ after_script (views_of a.old b.old) lines.now }
 {

@@ -9,6 +9,9 @@ use tree_words::layout::{
 };
 use tree_words::{Closed, report, visits_of};
 
+// In the position of size 5 and seed 1 the mover has no move but b3 that wins: of each other one
+// `solve` says that the other player wins. His connections don't show the win, and no cell but b3
+// lies in all threats.
 static SEARCHES: &str = "\
 forced-win|htp --hsearch off --playouts 4|\
     boardsize 2~play b a2~play w b2~genmove b~search-report~winner~|0|\
@@ -39,7 +42,13 @@ bench-12|bench --size 2 --playouts 12 --expand 1||0|\
 bench-6|bench --size 6 --playouts 20 --workers 2 --seed 154||0|\
     size 6~stones 10~playouts 20~records 20~
 bench-large|bench --size 11 --playouts 100000 --workers 8 --seed 5||0|\
-    size 11~stones 40~playouts 100000~records 100000~";
+    size 11~stones 40~playouts 100000~records 100000~
+bench-won|bench --size 1 --playouts 5 --look 3||0|size 1~stones 0~win a1~
+bench-without-connections|bench --size 1 --playouts 5 --hsearch off --solve 9 --look 3||0|\
+    size 1~stones 0~playouts 5~records 5~best a1 5~
+bench-one-allowed|bench --size 5 --seed 1 --playouts 12 --look 3||0|\
+    size 5~stones 8~playouts 12~records 12~best b3 12~
+bench-one-wins|bench --size 5 --seed 1 --solve 10000||0|size 5~stones 8~win b3~";
 
 static ONE_INPUT: &str = "boardsize 2~search-report~genmove b~search-report~wincert~";
 

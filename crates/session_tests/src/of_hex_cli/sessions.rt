@@ -38,8 +38,9 @@ play-forms|htp --size 3|showboard~play b A1~play BLACK a1~play white c3~showboar
     = ~   a b c~ 1 B . .~  2 . . .~   3 . . W~~? syntax error~~? illegal move~~\
     ? syntax error~~= ~~= ~~= ~   a b c~ 1 W . .~  2 . . .~   3 . . .~~\
     ? syntax error~~? unacceptable size~~
-arguments|htp|printsgf now~loadsgf~search-report~mustplay~wincert~mustplay now~genmove~|0|\
-    ? syntax error~~? syntax error~~? no search~~? no search~~? no certificate~~\
+arguments|htp|printsgf now~loadsgf~search-report~mustplay~wincert~look-report~mustplay now~\
+    genmove~|0|? syntax error~~? syntax error~~? no search~~? no search~~? no certificate~~\
+    ? no look~~\
     ? syntax error~~? syntax error~~
 largest-board|htp|boardsize 11 11~showboard~quit~|0|= ~~= ~   a b c d e f g h i j k~ \
     1 . . . . . . . . . . .~  \
@@ -76,8 +77,8 @@ static WHOLE_INPUT: &str = "name~version~list_commands~boardsize 11 11~play blac
 genmove white~undo~undo~quit~";
 
 static WHOLE_FRONT: &str = "= hexd~~= 1.0~~= boardsize~clear_board~genmove~known_command~\
-list_commands~loadsgf~mustplay~name~play~printsgf~protocol_version~quit~search-report~showboard~\
-undo~version~wincert~winner~~= ~~= ~~= ";
+list_commands~loadsgf~look-report~mustplay~name~play~printsgf~protocol_version~quit~search-report~\
+showboard~undo~version~wincert~winner~~= ~~= ~~= ";
 
 #[test]
 fn whole_session(rt: HostRuntime) -> Result<(), Fail> {

@@ -1,8 +1,9 @@
-use Rattle.std.proofs.Common.{◌≡◌, ℕ, ◌&&◌}
-use Rattle.hex_cells.specs.Sets.{has}
-use Rattle.edge_tables.specs.Covers.{all_have, picked}
+use Rattle.std.proofs.Common.{◌<◌, length, All}
+use Rattle.edge_tables.proofs.Aparts.{IsLeft}
 use Rattle.edge_tables.proofs.covers.chosen_from.Given as goal
 
-abbrev pub invariant-steps : goal.invariant-steps
-invariant-steps l = (k : ℕ)
-    → has l.left k ≡ (has l.fn.region k && all_have (picked l.list l.chosen.items) k)
+abbrev pub invariant-loop-step : goal.invariant-loop-step
+invariant-loop-step l = record {
+  within : All (λ p. p < length l.list) l.chosen.items;
+  left_has : IsLeft l.list l.fn.region l.chosen.items l.left;
+}

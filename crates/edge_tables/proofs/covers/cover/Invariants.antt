@@ -1,9 +1,9 @@
-use Rattle.std.proofs.Common.{◌≡◌, ◌≤◌, ◌⊎◌, [], length}
-use Rattle.edge_tables.specs.Covers.{IsCoverOrNone}
+use Rattle.std.proofs.Common.{◌≢◌, vec_len}
+use Rattle.edge_tables.specs.Covers.{IsCover}
 use Rattle.edge_tables.proofs.covers.cover.Given as goal
 
-abbrev pub invariant-starts : goal.invariant-starts
-invariant-starts l = record {
-  few : (l.best.items ≡ []) ⊎ (2 ≤ length l.best.items);
-  apart : IsCoverOrNone l.list l.region l.best.items;
+abbrev pub invariant-loop-start : goal.invariant-loop-start
+invariant-loop-start l = record {
+  cover : IsCover l.list l.region l.best.items;
+  several : vec_len l.best ≢ 1;
 }

@@ -4,7 +4,7 @@ use Rattle.hex_devices.specs.Devices.{CountsStop}
 use Rattle.htp_session.proofs.Conversations.{conversed_same}
 use Rattle.hex_cli.specs.Modes.{engine_options}
 use Rattle.hex_devices.specs.Statuses.{stop_in}
-use Rattle.hex_cli.specs.declared.limits.TheConstants.{INPUT_LIMIT}
+use Rattle.hex_io.specs.declared.limits.TheConstants.{INPUT_LIMIT}
 use Rattle.hex_cli.proofs.RunLaws.{stop_in_end}
 use Rattle.hex_cli.proofs.playing.play.Goals as goal
 

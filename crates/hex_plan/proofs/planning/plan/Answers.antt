@@ -1,16 +1,27 @@
--- A search is among empty cells, and there is one.
-use Rattle.std.proofs.Common.{subst, true}
+-- A plan by connections is one with any budget. A search is among empty cells, and there is one.
+use Rattle.std.proofs.Common.{ℕ, Bool, subst, sym, true}
 use Rattle.std.specs.Prelude.{IfOk}
+use Rattle.std.proofs.lemmas.Bool.{not-false}
 use Rattle.hex_board.specs.Elements.{PlayerBoard}
-use Rattle.hex_plan.specs.Plans.{IsPlanned}
+use Rattle.hex_plan.specs.Plans.{IsConnected, IsPlannedFor}
 use Rattle.hex_plan.proofs.Allowing.{if_allows}
+use Rattle.hex_plan.proofs.Sought.{if_sought}
 use Rattle.hex_plan.proofs.planning.plan.Goals as goal
+
+pub returns-in-Some-clause-planned : goal.returns-in-Some-clause-planned
+returns-in-Some-clause-planned c =
+    let solve = c.args.means.solve in
+    subst (λ (b : Bool). IfOk c.win_plan.result (IsPlannedFor c.args.board.now c.args.colour b solve)) (sym (not-false c.args.means.hsearch c.if-not-means.false))
+    (if_sought solve c.args.board.now c.args.colour c.win_plan.result
+    (subst (λ (e : PlayerBoard). IfOk c.win_plan.result (IsConnected e.board e.player)) c.in_ok-own.ensures.elements c.win_plan.ensures))
 
 pub returns-in-Some-clause-allowed : goal.returns-in-Some-clause-allowed
 returns-in-Some-clause-allowed c =
-    if_allows c.args.board.now c.args.colour true c.win_plan.result c.requires.room
-    (subst (λ (e : PlayerBoard). IfOk c.win_plan.result (IsPlanned e.board e.player true)) c.in_ok-own.ensures.elements c.win_plan.ensures)
+    let solve = c.args.means.solve in
+    if_allows c.args.board.now c.args.colour true solve c.win_plan.result c.requires.room
+    (if_sought solve c.args.board.now c.args.colour c.win_plan.result
+    (subst (λ (e : PlayerBoard). IfOk c.win_plan.result (IsConnected e.board e.player)) c.in_ok-own.ensures.elements c.win_plan.ensures))
 
 pub returns-in-None-clause-allowed : goal.returns-in-None-clause-allowed
 returns-in-None-clause-allowed c
-    = if_allows c.args.board.now c.args.colour true c.search_plan.result c.requires.room c.search_plan.ensures
+    = if_allows c.args.board.now c.args.colour true c.args.means.solve c.unjoined_plan.result c.requires.room c.unjoined_plan.ensures

@@ -1,28 +1,17 @@
-use Rattle.std.proofs.Common.{◌≡◌, ℕ, ◌+◌, ◌∷◌, [], ◌++◌, length, length-append, map, ap, sym}
-use Rattle.std.proofs.Common.{subst, ◌∙◌, arith}
-use Rattle.hsearch.specs.Listed.{Lists}
-use Rattle.hsearch.proofs.TakenLists.{none_first, none_more}
+use Rattle.std.proofs.Common.{◌∙◌, arith}
+use Rattle.std.proofs.lemmas.List.{length-set}
+use Rattle.hsearch.proofs.TakenLists.{none_at_all, none_below_more}
 use Rattle.hsearch.proofs.listing.empty_lists.Goals as goal
 
-pub elements-init : goal.elements-init
-elements-init c = record {
-  count = ap length c.new-lists.ensures.items;
-  empty = none_first (λ q. q.items) c.new-lists.result.items c.new-lists.ensures.items;
+pub lists-preserved : goal.lists-preserved
+lists-preserved c = record {
+  count = length-set c.lists.lists.items c.lists.place c.clear.new.self
+      ∙ c.lists.invariant.count;
+  empty = none_below_more (λ q. q.items) c.lists.lists.items c.lists.place c.clear.new.self c.lists.invariant.empty
+      (omega (arith, c.lists-test.true, c.len-place-end.ensures, c.lists.invariant.count)) c.clear.ensures.items;
 }
 
-pub elements-preserved : goal.elements-preserved
-elements-preserved c =
-    let e : c.push.new.self.items ≡ c.elements.lists.items ++ c.in_ok-with_capacity.field-0 ∷ []
-    = c.in_ok-push.ensures.items in
-    record {
-      count = ap length e
-          ∙ (length-append c.elements.lists.items (c.in_ok-with_capacity.field-0 ∷ []) ∙ ap (λ n. n + 1) c.elements.invariant.count);
-      empty = subst (λ xs. (u i : ℕ) → ¬ (Lists (map (λ q. q.items) xs) u i)) (sym e)
-          (none_more (λ q. q.items) c.elements.lists.items c.in_ok-with_capacity.field-0 c.elements.invariant.empty c.in_ok-with_capacity.ensures.items);
-    }
-
-pub returns-clause-count : goal.returns-clause-count
-returns-clause-count c = c.elements.invariant.count ∙ omega arith
-
-pub returns-clause-empty : goal.returns-clause-empty
-returns-clause-empty c = c.elements.invariant.empty
+pub returns : goal.returns
+returns c =
+    none_at_all (λ q. q.items) c.lists.lists.items c.lists.place c.lists.invariant.empty
+    (omega (arith, c.lists-test.false, c.len-place-end.ensures, c.lists.invariant.count))

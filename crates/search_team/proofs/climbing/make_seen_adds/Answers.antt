@@ -1,5 +1,5 @@
 -- A climb that is lent begins where the walker stands, and the adds of a half are a run more.
-use Rattle.std.proofs.Common.{◌≡◌, ◌≢◌, List, [], sym, ◌∙◌, subst}
+use Rattle.std.proofs.Common.{List, sym, ◌∙◌, subst}
 use Rattle.arena_rule.specs.Adds.{CountAdd}
 use Rattle.walker.specs.declared.machine.Walker.{Walker}
 use Rattle.walker.specs.Machine.{with_climb}
@@ -13,6 +13,9 @@ add_half-requires-clause-belongs c =
     let some = c.in-Some.ensures in
     (climb-begins c.args.walker.now c.args.seat.now.view c.requires.belongs some.0
     c.in-Some.climb some.1).belongs
+
+pub add_half-requires-2-clause-lone : goal.add_half-requires-2-clause-lone
+add_half-requires-2-clause-lone c = c.add_half.ensures.run.lone c.requires.lone
 
 pub put_climb-requires : goal.put_climb-requires
 put_climb-requires c =

@@ -1,4 +1,5 @@
 -- The looks fit, and are three steps of the walker.
+use Rattle.std.proofs.Common.{◌∙◌}
 use Rattle.std.proofs.Common.{sym, ap, subst}
 use Rattle.arena_rule.specs.Fits.{FitsStep}
 use Rattle.search_team.proofs.Going.{is-done, not-done}
@@ -20,7 +21,8 @@ act-tally-requires-clause-fits c =
     subst (FitsStep c.act-moved.new.self.view)
     (sym (c.child_ops-look_at_move.ensures.second c.act-moved.result))
     (fits-tally c.args.walker.now c.args.scan.now c.args.seat.now.view c.requires.stage c.requires.phase c.requires.more c.requires.belongs
-    c.child_ops-look_at_move.result.0 c.act-moved.result c.act-moved.new.self.view c.child_ops-look_at_move.ensures.first c.act-moved.ensures.answer c.act-moved.ensures.view)
+    c.child_ops-look_at_move.result.0 c.act-moved.result c.act-moved.new.self.view
+    c.child_ops-look_at_move.ensures.first c.act-moved.ensures.answer c.act-moved.ensures.view)
 
 pub act-tally-requires-clause-step : goal.act-tally-requires-clause-step
 act-tally-requires-clause-step c
@@ -32,7 +34,8 @@ act-seen-requires-clause-fits c =
     subst (FitsStep c.act-tally.new.self.view)
     (sym (c.child_ops-look_at_move.ensures.third c.act-moved.result c.act-tally.result))
     (fits-seen c.args.walker.now c.args.scan.now c.args.seat.now.view c.requires.stage c.requires.phase c.requires.more c.requires.belongs
-    c.child_ops-look_at_move.result.0 c.act-moved.result c.act-moved.new.self.view c.child_ops-look_at_move.ensures.first c.act-moved.ensures.answer c.act-moved.ensures.view
+    c.child_ops-look_at_move.result.0 c.act-moved.result c.act-moved.new.self.view
+    c.child_ops-look_at_move.ensures.first c.act-moved.ensures.answer c.act-moved.ensures.view
     c.child_ops-look_at_move.result.1 c.act-tally.result c.act-tally.new.self.view
     (c.child_ops-look_at_move.ensures.second c.act-moved.result) c.act-tally.ensures.answer c.act-tally.ensures.view)
 
@@ -44,7 +47,8 @@ act-seen-requires-clause-step c
 pub got_child-requires-clause-can : goal.got_child-requires-clause-can
 got_child-requires-clause-can c =
     can-child c.args.walker.now c.args.scan.now c.args.seat.now.view c.requires.stage c.requires.phase c.requires.more c.requires.belongs
-    c.child_ops-look_at_move.result.0 c.act-moved.result c.act-moved.new.self.view c.child_ops-look_at_move.ensures.first c.act-moved.ensures.answer c.act-moved.ensures.view
+    c.child_ops-look_at_move.result.0 c.act-moved.result c.act-moved.new.self.view
+    c.child_ops-look_at_move.ensures.first c.act-moved.ensures.answer c.act-moved.ensures.view
     c.child_ops-look_at_move.result.1 c.act-tally.result c.act-tally.new.self.view
     (c.child_ops-look_at_move.ensures.second c.act-moved.result) c.act-tally.ensures.answer c.act-tally.ensures.view
     c.child_ops-look_at_move.result.2 c.act-seen.result c.act-seen.new.self.view
@@ -53,7 +57,8 @@ got_child-requires-clause-can c =
 pub returns-clause-phase : goal.returns-clause-phase
 returns-clause-phase c =
     (child-looked c.args.walker.now c.args.scan.now c.args.seat.now.view c.requires.stage c.requires.phase c.requires.more c.requires.belongs
-    c.child_ops-look_at_move.result.0 c.act-moved.result c.act-moved.new.self.view c.child_ops-look_at_move.ensures.first c.act-moved.ensures.answer c.act-moved.ensures.view
+    c.child_ops-look_at_move.result.0 c.act-moved.result c.act-moved.new.self.view
+    c.child_ops-look_at_move.ensures.first c.act-moved.ensures.answer c.act-moved.ensures.view
     c.child_ops-look_at_move.result.1 c.act-tally.result c.act-tally.new.self.view
     (c.child_ops-look_at_move.ensures.second c.act-moved.result) c.act-tally.ensures.answer c.act-tally.ensures.view
     c.child_ops-look_at_move.result.2 c.act-seen.result c.act-seen.new.self.view
@@ -63,7 +68,8 @@ returns-clause-phase c =
 pub returns-clause-run : goal.returns-clause-run
 returns-clause-run c =
     (child-looked c.args.walker.now c.args.scan.now c.args.seat.now.view c.requires.stage c.requires.phase c.requires.more c.requires.belongs
-    c.child_ops-look_at_move.result.0 c.act-moved.result c.act-moved.new.self.view c.child_ops-look_at_move.ensures.first c.act-moved.ensures.answer c.act-moved.ensures.view
+    c.child_ops-look_at_move.result.0 c.act-moved.result c.act-moved.new.self.view
+    c.child_ops-look_at_move.ensures.first c.act-moved.ensures.answer c.act-moved.ensures.view
     c.child_ops-look_at_move.result.1 c.act-tally.result c.act-tally.new.self.view
     (c.child_ops-look_at_move.ensures.second c.act-moved.result) c.act-tally.ensures.answer c.act-tally.ensures.view
     c.child_ops-look_at_move.result.2 c.act-seen.result c.act-seen.new.self.view
@@ -73,7 +79,8 @@ returns-clause-run c =
 pub returns-clause-fewer : goal.returns-clause-fewer
 returns-clause-fewer c =
     (child-looked c.args.walker.now c.args.scan.now c.args.seat.now.view c.requires.stage c.requires.phase c.requires.more c.requires.belongs
-    c.child_ops-look_at_move.result.0 c.act-moved.result c.act-moved.new.self.view c.child_ops-look_at_move.ensures.first c.act-moved.ensures.answer c.act-moved.ensures.view
+    c.child_ops-look_at_move.result.0 c.act-moved.result c.act-moved.new.self.view
+    c.child_ops-look_at_move.ensures.first c.act-moved.ensures.answer c.act-moved.ensures.view
     c.child_ops-look_at_move.result.1 c.act-tally.result c.act-tally.new.self.view
     (c.child_ops-look_at_move.ensures.second c.act-moved.result) c.act-tally.ensures.answer c.act-tally.ensures.view
     c.child_ops-look_at_move.result.2 c.act-seen.result c.act-seen.new.self.view
@@ -83,9 +90,13 @@ returns-clause-fewer c =
 pub returns-clause-last : goal.returns-clause-last
 returns-clause-last c =
     (child-looked c.args.walker.now c.args.scan.now c.args.seat.now.view c.requires.stage c.requires.phase c.requires.more c.requires.belongs
-    c.child_ops-look_at_move.result.0 c.act-moved.result c.act-moved.new.self.view c.child_ops-look_at_move.ensures.first c.act-moved.ensures.answer c.act-moved.ensures.view
+    c.child_ops-look_at_move.result.0 c.act-moved.result c.act-moved.new.self.view
+    c.child_ops-look_at_move.ensures.first c.act-moved.ensures.answer c.act-moved.ensures.view
     c.child_ops-look_at_move.result.1 c.act-tally.result c.act-tally.new.self.view
     (c.child_ops-look_at_move.ensures.second c.act-moved.result) c.act-tally.ensures.answer c.act-tally.ensures.view
     c.child_ops-look_at_move.result.2 c.act-seen.result c.act-seen.new.self.view
     (c.child_ops-look_at_move.ensures.third c.act-moved.result c.act-tally.result) c.act-seen.ensures.answer c.act-seen.ensures.view
     c.got_child.new.self c.got_child.ensures).last
+
+pub returns-clause-owed : goal.returns-clause-owed
+returns-clause-owed c = c.act-seen.ensures.owed ∙ c.act-tally.ensures.owed ∙ c.act-moved.ensures.owed

@@ -1,4 +1,5 @@
 -- A scan that is lent begins where the walker stands, and each look is one step more.
+use Rattle.std.proofs.Common.{◌∙◌}
 use Rattle.walker.specs.declared.machine.Walker.{Walker}
 use Rattle.walker.specs.Scans.{ScanData}
 use Rattle.walker.specs.Machine.{with_scan}
@@ -22,6 +23,7 @@ rest-init c =
     let z : ScanData → Walker = with_scan c.args.walker.now in
     record {
       own = c.look_while_choosing.ensures.own;
+      owed = c.look_while_choosing.ensures.owed;
       stage = some.0;
       phase = c.look_while_choosing.ensures.phase;
       run = run-runs c.args.walker.now (z c.in-Some.scan)
@@ -35,6 +37,7 @@ rest-preserved c =
     let z : ScanData → Walker = with_scan c.args.walker.now in
     record {
       own = c.look_at_child.ensures.own;
+      owed = c.look_at_child.ensures.owed ∙ c.rest.invariant.owed;
       stage = c.rest.invariant.stage;
       phase = c.look_at_child.ensures.phase;
       run = run-runs c.args.walker.now (z c.rest.scan)

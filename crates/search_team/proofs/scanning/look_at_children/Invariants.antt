@@ -12,6 +12,7 @@ use Rattle.search_team.proofs.scanning.look_at_children.Given as goal
 abbrev pub invariant-rest : goal.invariant-rest
 invariant-rest l = record {
   own : IsOf l.tree l.seat;
+  owed : l.seat.owed ≡ l.fn.seat.owed;
   stage : l.walker.stage ≡ Scanning;
   phase : l.scan.phase ≡ Move;
   run : HasRun l.fn.walker l.fn.seat.view (with_scan l.walker l.scan) l.seat.view;

@@ -11,6 +11,7 @@ use Rattle.search_team.proofs.scanning.look_while_choosing.Given as goal
 abbrev pub invariant-looks : goal.invariant-looks
 invariant-looks l = record {
   own : IsOf l.tree l.seat;
+  owed : l.seat.owed ≡ l.fn.seat.owed;
   phase : l.scan.phase ≡ Move;
   run : HasRun (with_scan l.walker l.fn.scan) l.fn.seat.view
       (with_scan l.walker l.scan) l.seat.view;

@@ -7,9 +7,9 @@ pub join-left-requires-after_bounds : goal.join-left-requires-after_bounds
 join-left-requires-after_bounds g t c =
     let kept = kept-fresh c.args.tree.now c.args.seat c.split-other.new.self c.args.workers
     (c.args.workers / 2)
-    c.requires.fresh c.split-other.ensures.own.0 c.split-other.ensures.kept c.split-other.ensures.order.0 in
+    c.requires.fresh c.split-other.ensures.own.0 c.split-other.ensures.kept c.split-other.ensures.order.0 c.split-other.ensures.owed.0 in
     let given = given-fresh c.args.tree.now c.args.seat c.split-other.result (c.args.workers / 2)
-    c.split-other.ensures.own.1 c.split-other.ensures.given c.split-other.ensures.order.1 in
+    c.split-other.ensures.own.1 c.split-other.ensures.given c.split-other.ensures.order.1 c.split-other.ensures.owed.1 in
     λ κs lives. (
       (
         search rules,
@@ -33,8 +33,9 @@ join-left-requires-after_bounds g t c =
       ),
     )
 
-pub returns-clause-done : goal.returns-clause-done
-returns-clause-done g t c
-    = joined-done c.args.tree.now c.join-left.result.0 c.join-left.result.1 c.join.new.self
-    (c.args.workers - c.args.workers / 2) (c.args.workers / 2) c.args.workers
-    c.join-left.ensures.first c.join-left.ensures.second c.join.ensures.own c.join.ensures.both c.join.ensures.order (omega arith)
+pub returns : goal.returns
+returns g t c = record {
+  done = joined-done c.args.tree.now c.join-left.result.0 c.join-left.result.1 c.join.new.self
+      (c.args.workers - c.args.workers / 2) (c.args.workers / 2) c.args.workers
+      c.join-left.ensures.first c.join-left.ensures.second c.join.ensures.own c.join.ensures.both c.join.ensures.order c.join.ensures.owed (omega arith);
+}

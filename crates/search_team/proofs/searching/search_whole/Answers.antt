@@ -1,20 +1,21 @@
--- If one worker worked, from the opening words on, the tree is that of the sequential search.
-use Rattle.std.proofs.Common.{◌≡◌, Some, sym, ap, ◌∙◌, subst}
-use Rattle.tree_words.specs.Opening.{opening_words}
-use Rattle.tree_words.specs.Sequence.{seq_of}
-use Rattle.tree_words.specs.Settings.{Setting}
-use Rattle.tree_words.specs.Trees.{IsTreeOf}
-use Rattle.lone_worker.specs.Alone.{ShowsSequence}
+-- The team is of two workers at least, and begins with nothing drawn.
+use Rattle.std.proofs.Common.{sym, ap, ◌∙◌, subst}
+use Rattle.arena_rule.specs.Views.{SeatView, HasDrawnNothing}
+use Rattle.arena_rule.proofs.Firsts.{opening-nothing}
 use Rattle.search_team.proofs.searching.search_whole.Goals as goal
 
+pub team-seat-requires-clause-fresh : goal.team-seat-requires-clause-fresh
+team-seat-requires-clause-fresh g c = λ κs lives.
+    let is = c.in_ok-tree.ensures.view in
+    record {
+      own = c.in_ok-tree.ensures.own;
+      width = ap (λ (v : SeatView). v.width) is ∙ sym (ap (λ k. k.workers) c.knobs.ensures.value);
+      nothing = subst HasDrawnNothing (sym is) (opening-nothing c.args.shape.now);
+      order = c.in_ok-tree.ensures.order;
+      owed = c.in_ok-tree.ensures.owed;
+      lone = λ e. absurd (c.if-workers-eq1.false e);
+    }
+
 pub returns-clause-one : goal.returns-clause-one
-returns-clause-one g c = λ one.
-    let s : Setting = c.args.shape.now in
-    let width : c.in_ok-tree.seat.view.width ≡ 1
-    = ap (λ v. v.width) c.in_ok-tree.ensures.view ∙ one in
-    let whole : c.in_ok-tree.seat.view.whole ≡ Some (opening_words s)
-    = ap (λ v. v.whole) c.in_ok-tree.ensures.view in
-    let shows : ShowsSequence s c.team-seat.result.view
-    = c.team-seat.ensures.sequence one width whole in
-    subst (λ words. IsTreeOf s words (seq_of s).0)
-    (sym (c.close.ensures.whole shows.words shows.whole)) shows.tree
+returns-clause-one g c
+    = λ one. absurd (c.if-workers-eq1.false (ap (λ k. k.workers) c.knobs.ensures.value ∙ one))

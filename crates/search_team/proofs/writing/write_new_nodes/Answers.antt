@@ -1,4 +1,5 @@
 -- New nodes that are lent begin where the walker stands, and each node is four steps more.
+use Rattle.std.proofs.Common.{◌∙◌, refl}
 use Rattle.walker.specs.declared.machine.Walker.{Walker}
 use Rattle.walker.specs.NewNodes.{NewNodesData, with_nodes}
 use Rattle.search_team.proofs.Going.{run-runs}
@@ -10,6 +11,7 @@ nodes-init c =
     let some = c.in-Some.ensures in
     record {
       own = c.requires.own;
+      owed = refl;
       stage = some.0;
       nodes = some.3;
       run = nodes-begin c.args.walker.now c.args.seat.now.view c.requires.belongs some.0 c.in-Some.nodes some.1 some.2 some.3;
@@ -22,6 +24,7 @@ nodes-preserved c =
     let z : NewNodesData → Walker = with_nodes c.args.walker.now in
     record {
       own = c.write_node.ensures.own;
+      owed = c.write_node.ensures.owed ∙ c.nodes.invariant.owed;
       stage = c.nodes.invariant.stage;
       nodes = c.write_node.ensures.nodes;
       run = run-runs c.args.walker.now (z c.nodes.nodes)

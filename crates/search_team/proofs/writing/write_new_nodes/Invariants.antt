@@ -11,6 +11,7 @@ use Rattle.search_team.proofs.writing.write_new_nodes.Given as goal
 abbrev pub invariant-nodes : goal.invariant-nodes
 invariant-nodes l = record {
   own : IsOf l.tree l.seat;
+  owed : l.seat.owed ≡ l.fn.seat.owed;
   stage : l.walker.stage ≡ Writing;
   nodes : AreNodesOf l.walker l.nodes;
   run : HasRun l.fn.walker l.fn.seat.view (with_nodes l.walker l.nodes) l.seat.view;

@@ -8,7 +8,7 @@ use Rattle.tree_rule.proofs.steps.claim.Goals as goal
 pub fetch_add-requires : goal.fetch_add-requires
 fetch_add-requires c =
     let sits = c.requires.own in
-    let v = c.args.seat.now.me.0 in
+    let v = c.args.seat.now.me.0.view in
     let size = c.args.size in (
       sits.table,
       omega (arith, word-within v sits.view (Claim size) c.requires.fits, sits.words),

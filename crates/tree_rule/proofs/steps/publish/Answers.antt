@@ -10,7 +10,7 @@ use Rattle.tree_rule.proofs.steps.publish.Goals as goal
 pub compare_exchange-requires : goal.compare_exchange-requires
 compare_exchange-requires c =
     let sits = c.requires.own in
-    let v = c.args.seat.now.me.0 in
+    let v = c.args.seat.now.me.0.view in
     let link = c.args.link in
     let block = c.args.block in (
       sits.table,

@@ -5,7 +5,9 @@ use Rattle.tree_words.specs.Opening.{opening_words}
 use Rattle.tree_words.proofs.NewBlocks.OpeningTold.{opening-are}
 use Rattle.arena_rule.specs.Rule.{Rule}
 use Rattle.tree_rule.specs.Ends.{IsSameBehind}
-use Rattle.tree_rule.proofs.Ends.{beyond}
+use Rattle.tree_rule.proofs.Ends.{beyond, last-rule}
+use Rattle.arena_rule.specs.Owing.{view_of, views_of}
+use Rattle.atomic_table.proofs.Lists.{at_map}
 use Rattle.tree_rule.proofs.trees.end.Goals as goal
 use Rattle.std.proofs.lemmas.List.{take_at}
 
@@ -27,7 +29,9 @@ copy_claimed-requires-clause-same c =
     let words : List ℕ = slots_items c.close_with-closed.result.words in
     let same : IsSameBehind words (opening_words s)
     = subst (λ (ws : List ℕ). IsSameBehind ws (opening_words s)) last.2
-    (beyond s last.0.words last.0.views last.1.0) in
+    (beyond s last.0.words (views_of last.0.views) (last-rule s last.0.words last.0.views last.1.0
+    c.args.seat.id c.args.seat.me.0 last.1.1 c.requires.owed c.requires.all c.requires.ended))
+    in
     subst (λ (room : List ℕ). IsSameBehind words room)
     (sym (c.deref_mut.ensures.value ∙ c.requires.stands.room_is)) same
 
@@ -49,4 +53,9 @@ returns c =
     ) in
     let same = take_at c.copy_claimed.new.room _ c.args.room.len
     (sym long ∙ c.deref_mut.ensures.len) in
-    record { views = last.0.views; rule = subst (λ (words : List ℕ). Rule s words last.0.views) (last.2 ∙ sym (same ∙ copied)) last.1.0; at = last.1.1 }
+    record {
+      views = views_of last.0.views;
+      rule = subst (λ (words : List ℕ). Rule s words (views_of last.0.views)) (last.2 ∙ sym (same ∙ copied))
+          (last-rule s last.0.words last.0.views last.1.0 c.args.seat.id c.args.seat.me.0 last.1.1 c.requires.owed c.requires.all c.requires.ended);
+      at = at_map view_of last.0.views c.args.seat.id c.args.seat.me.0 last.1.1;
+    }

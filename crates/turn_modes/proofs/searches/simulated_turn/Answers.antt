@@ -3,6 +3,7 @@ use Rattle.hex_cells.specs.declared.colours.Colour.TheVariants.{Black}
 use Rattle.tree_words.specs.Settings.{Setting}
 use Rattle.tree_words.specs.declared.settings.Knobs.{Knobs}
 use Rattle.sim_run.specs.BetweenSteps.{EndsSchedule}
+use Rattle.hex_plan.specs.Good.{no_means}
 use Rattle.turn_modes.specs.OneTurn.{IsFirstTurn}
 use Rattle.turn_modes.specs.Schedules.{schedule_of}
 use Rattle.turn_modes.proofs.Decided.{shape_of_tree, sequential_tree}
@@ -14,7 +15,7 @@ returns-clause-turn c =
     let board = c.empty-board.result in
     let s = c.in_ok-prepared.prepared.shape in
     let same : c.in_ok-closed.closed.shape ≡ s = c.in_ok-closed.ensures.shape in
-    subst (λ p. IsFirstTurn knobs p Black c.decide.result) c.empty-board.ensures.value
+    subst (λ p. IsFirstTurn knobs no_means p Black c.decide.result) c.empty-board.ensures.value
     (c.decide.ensures.first knobs board Black c.empty-board.ensures.nobody
     c.in_ok-prepared.ensures.planned
     (shape_of_tree knobs board Black s c.in_ok-closed.closed same c.in_ok-prepared.ensures.shape)

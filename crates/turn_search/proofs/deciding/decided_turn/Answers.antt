@@ -1,7 +1,51 @@
--- The board has room.
+-- The board has room, the cells that are searched are empty, and the turn is owed.
+use Rattle.std.proofs.Common.{◌≡◌, None, refl, sym, ap, ◌∙◌, subst}
 use Rattle.std.proofs.lemmas.Bool.{and_parts}
+use Rattle.hex_cells.specs.declared.colours.Colour.{Colour}
+use Rattle.hex_board.specs.Joined.{winner_of}
+use Rattle.hex_board.specs.Positions.{AllEmpty, Position}
+use Rattle.tree_words.specs.Sequence.{seq_of}
+use Rattle.tree_words.specs.Settings.{Setting}
+use Rattle.tree_words.specs.Trees.{IsTreeOf}
+use Rattle.tree_words.specs.declared.settings.Knobs.{Knobs}
 use Rattle.hex_plan.proofs.Rooms.{empty_in}
+use Rattle.hex_plan.specs.Plans.{IsPlanned}
+use Rattle.hex_plan.specs.Turns.{TurnData}
+use Rattle.turn_search.proofs.Searched.{nobody, searched_empty}
 use Rattle.turn_search.proofs.deciding.decided_turn.Goals as goal
 
 pub plan-requires-clause-room : goal.plan-requires-clause-room
 plan-requires-clause-room g c = empty_in c.args.board.now (and_parts _ _ c.requires.may).1
+
+pub turn_shape-shape-requires-clause-empty : goal.turn_shape-shape-requires-clause-empty
+turn_shape-shape-requires-clause-empty g c
+    = subst (AllEmpty c.args.board.now) (sym c.searched_cells-cells.ensures.value)
+    (searched_empty c.args.board.now c.in_ok-planned.planned.plan c.in-Some.allowed
+    c.in_ok-looked.looked c.in_ok-planned.ensures.allowed c.in-Some.ensures.search
+    c.in_ok-looked.ensures.chosen)
+
+pub returns : goal.returns
+returns g c =
+    let tree = c.in-Ok.closed in
+    let same : tree.shape ≡ c.turn_shape-shape.result = c.in-Ok.ensures.shape in
+    let board : tree.shape.board ≡ c.args.board.now
+    = ap (λ (s : Setting). s.board) same ∙ c.turn_shape-shape.ensures.board in
+    let player : tree.shape.player ≡ c.args.colour
+    = ap (λ (s : Setting). s.player) same ∙ c.turn_shape-shape.ensures.player in
+    let knobs = ap (λ (s : Setting). s.knobs) same ∙ c.turn_shape-shape.ensures.knobs in
+    let parts = c.searched.ensures.parts in
+    record {
+      good = c.searched.ensures.good c.args.knobs.now c.args.means
+          (ap winner_of board ∙ nobody (winner_of c.args.board.now) (and_parts _ _ c.requires.may).0)
+          (subst (λ (p : Position). IsPlanned p tree.shape.player c.args.means c.in_ok-planned.planned)
+          (sym board)
+          (subst (λ (k : Colour). IsPlanned c.args.board.now k c.args.means c.in_ok-planned.planned)
+          (sym player) c.in_ok-planned.ensures.planned))
+          c.in_ok-looked.ensures.there
+          (record { board = refl; player = refl; allowed = refl; knobs = knobs })
+          (λ w. subst (λ (s : Setting). IsTreeOf s tree.words (seq_of s).0) (sym same)
+          (c.in-Ok.ensures.one (ap (λ (k : Knobs). k.workers) c.turn_shape-shape.ensures.knobs ∙ w)));
+      board = ap (λ (t : TurnData). t.board) parts ∙ board;
+      player = ap (λ (t : TurnData). t.player) parts ∙ player;
+      number = ap (λ (t : TurnData). t.number) parts;
+    }

@@ -1,4 +1,6 @@
-use Rattle.std.proofs.Common.{refl}
+use Rattle.std.proofs.Common.{refl, subst, ◌<◌}
+use Rattle.conn_store.specs.Stores.{most_of}
+use Rattle.conn_store.specs.declared.entries.Held.{Held}
 use Rattle.conn_store.proofs.Tables.{IsLooked, looked_full, looked_in, looked_not_full, looked_out}
 use Rattle.conn_store.proofs.Tables.{looked_room, numbers_here}
 use Rattle.conn_store.proofs.stores.Store.add.Goals as goal
@@ -35,7 +37,8 @@ pub append-requires-clause-room : goal.append-requires-clause-room
 append-requires-clause-room c =
     let k : IsLooked c.args.self.now c.args.entry c.held-held.result c.entries.result.now c.has_inside.result =
     record { held = c.held-held.ensures.numbers; few = c.held-held.ensures.few; same_entries = c.entries.ensures.value; answer = c.has_inside.ensures } in
-    looked_room _ _ _ _ _ _ k c.most.ensures c.if-held-most.false
+    subst (λ (h : Held). h.count < most_of c.args.entry.kind) c.held-held.ensures.numbers
+    (looked_room _ _ _ _ _ _ k c.most.ensures c.if-held-most.false)
 
 pub returns-clause-dominated : goal.returns-clause-dominated
 returns-clause-dominated c =

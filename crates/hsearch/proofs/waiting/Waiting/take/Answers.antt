@@ -9,8 +9,8 @@ returns-then-place-len c =
     let f : AreFilledFrom
     (map (λ q. q.items) c.self.inside.queues.items) c.self.inside.least c.first_filled-place.result =
     subst (λ xs. AreFilledFrom (map (λ q. q.items) xs) c.self.inside.least c.first_filled-place.result) c.deref.ensures.value c.first_filled-place.ensures in
-    sym c.self.view_is
-    ∙ none_left (λ q. q.items) c.self.inside.queues.items c.self.inside.least c.first_filled-place.result c.self.invariant f (omega arith)
+    let n = none_left (λ q. q.items) c.self.inside.queues.items c.self.inside.least c.first_filled-place.result c.self.invariant f (omega arith) in
+    (sym c.self.view_is ∙ n, n)
 
 pub invariant_of-self-2 : goal.invariant_of-self-2
 invariant_of-self-2 c =

@@ -7,6 +7,7 @@ use Rattle.search_tests.proofs.of_tree_rule.scripts.follow.Given as goal
 abbrev pub invariant-loop-line : goal.invariant-loop-line
 invariant-loop-line l = record {
   own : IsOf l.tree l.a × IsOf l.tree l.b;
+  owed : (l.a.owed ≡ l.fn.a.owed) × (l.b.owed ≡ l.fn.b.owed);
   fits : AllFit (views_of l.a l.b) (drop l.line-index l.lines);
   views : after_script (views_of l.a l.b) (drop l.line-index l.lines) ≡ after_script (views_of l.fn.a l.fn.b) l.lines;
 }

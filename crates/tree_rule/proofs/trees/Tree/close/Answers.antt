@@ -8,7 +8,9 @@ told : (c : goal.After-end) → EndsSo c.args.self.shape c.args.seat.view c.end.
 told c =
     let shape = ap (λ t. t.shape) c.self.view_is in
     let view = ap (λ s. s.view) c.seat.view_is in
-    end-told c.self.inside.table.shared.key c.args.self.shape c.seat.inside.seat.id c.seat.inside.seat.me.0 c.args.seat.view c.end.result.items c.end.ensures (c.self.invariant.0 ∙ shape) view c.requires.all c.requires.ended
+    end-told c.self.inside.table.shared.key c.args.self.shape c.seat.inside.seat.id
+    c.seat.inside.seat.me.0.view c.args.seat.view c.end.result.items c.end.ensures
+    (c.self.invariant.0 ∙ shape) view c.requires.all c.requires.ended
 
 pub of-requires : goal.of-requires
 of-requires c = subst (λ s. IsClosed s c.end.result.items) (sym (ap (λ t. t.shape) c.self.view_is))

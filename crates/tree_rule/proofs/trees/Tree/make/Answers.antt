@@ -6,7 +6,8 @@ use Rattle.tree_words.specs.Words.{end_of}
 use Rattle.tree_words.specs.Opening.{opening_words}
 use Rattle.tree_words.proofs.NewBlocks.OpeningTold.{opening-are}
 use Rattle.arena_rule.specs.Views.{SeatView, opening_view}
-use Rattle.arena_rule.specs.Rule.{Rule}
+use Rattle.arena_rule.specs.Owing.{Debtor, debtless, OwingRule, OwesRightly}
+use Rattle.arena_rule.proofs.OwingSeats.{owing-begins, owes-none}
 use Rattle.arena_rule.specs.IsView.{IsView}
 use Rattle.arena_rule.proofs.Law.{begins}
 use Rattle.tree_rule.proofs.Moves.{opening-order}
@@ -15,9 +16,9 @@ use Rattle.tree_rule.proofs.trees.Tree.make.Goals as goal
 pub of_words-requires : goal.of_words-requires
 of_words-requires c =
     let s = c.args.shape.now in
-    subst (λ (words : List ℕ). Rule s words (opening_view s ∷ []))
+    subst (λ (words : List ℕ). OwingRule s words (debtless (opening_view s) ∷ []))
     (sym (c.as_slice.ensures.value ∙ c.in_ok-room.ensures))
-    (begins s c.board-board.ensures.setting)
+    (owing-begins s (opening_words s) (opening_view s) (begins s c.board-board.ensures.setting))
 
 pub invariant_of-tree : goal.invariant_of-tree
 invariant_of-tree c =
@@ -38,18 +39,20 @@ invariant_of-result c =
     let me = c.in-Ok.ensures.4 in
     record {
       table = refl;
-      slots = ap (λ (m : Me ℕ SeatView). m.1) me;
+      slots = ap (λ (m : Me ℕ Debtor). m.1) me;
       words = ap (λ t. t.words) c.in-Ok.ensures.2 ∙ c.in-Ok.ensures.0
           ∙ ap length (c.as_slice.ensures.value ∙ c.in_ok-room.ensures)
           ∙ (opening-are c.args.shape.now set).long
-          ∙ sym (ap (λ (m : Me ℕ SeatView). end_of m.0.shape) me);
-      view = subst IsView (sym (ap (λ (m : Me ℕ SeatView). m.0) me))
+          ∙ sym (ap (λ (m : Me ℕ Debtor). end_of m.0.view.shape) me);
+      view = subst IsView (sym (ap (λ (m : Me ℕ Debtor). m.0.view) me))
           (opening-order c.args.shape.now set);
+      owed = subst OwesRightly (sym (ap (λ (m : Me ℕ Debtor). m.0) me)) (owes-none (opening_view c.args.shape.now));
     }
 
 pub returns-clause-rule : goal.returns-clause-rule
 returns-clause-rule c =
     let s = c.args.shape.now in
     let me = c.in-Ok.ensures.4 in
-    subst (λ (v : SeatView). Rule s (opening_words s) (v ∷ []))
-    (sym (ap (λ (m : Me ℕ SeatView). m.0) me)) (begins s c.board-board.ensures.setting)
+    subst (λ (v : SeatView). OwingRule s (opening_words s) (debtless v ∷ []))
+    (sym (ap (λ (m : Me ℕ Debtor). m.0.view) me))
+    (owing-begins s (opening_words s) (opening_view s) (begins s c.board-board.ensures.setting))

@@ -1,0 +1,97 @@
+"""bin/hexd-solve as a user runs it: what it writes, what it says meanwhile, and how it ends."""
+
+import re
+import signal
+import subprocess
+import tempfile
+import unittest
+from pathlib import Path
+
+from tests.support import LIMIT_SECONDS, ROOT, dying, first_line, is_running, until
+
+import hexd
+
+SOLVE = ROOT / "bin/hexd-solve"
+# Larger than what it can solve here.
+EMPTY = "(;GM[11]SZ[11])"
+
+
+def ran(*words, given=""):
+    return subprocess.run([SOLVE, *words], input=given, capture_output=True, text=True, timeout=LIMIT_SECONDS)
+
+
+class Solving(unittest.TestCase):
+    def test_its_text_is_that_of_hexd_solve(self):
+        for record in ("(;GM[11]SZ[4];B[b2])", "(;GM[11]SZ[5];B[a1];W[c3])", "(;GM[11]SZ[2]AB[b2])", "(;GM[11]SZ[1];B[a1])"):
+            run = ran(given=record)
+            self.assertEqual((0, hexd.Solver().answer(record.encode())), (run.returncode, run.stdout), run.stderr)
+            last = run.stderr.splitlines()[-1]
+            self.assertRegex(last, r"^hexd-solve: (won|over) \w+, with up to [0-9,]+ positions, after \d+\.\d s$")
+
+    def test_budgets_grow_to_the_largest(self):
+        run = ran("--hsearch", "off", "--budget", "2000", "-", given="(;GM[11]SZ[6])")
+        self.assertEqual((0, "unknown 2000\n"), (run.returncode, run.stdout))
+        self.assertEqual(["100", "400", "1,600", "2,000"], re.findall("with up to ([0-9,]+) positions", run.stderr))
+
+    def test_a_record_of_another_program(self):
+        with tempfile.TemporaryDirectory() as folder:
+            file = Path(folder) / "a game.sgf"
+            file.write_text("Game 1 (;SZ[3];B[B2];W[swap];B[a1];W[resign])")
+            run = ran(file)
+            self.assertEqual((0, "won white"), (run.returncode, run.stdout.partition("\n")[0]))
+            self.assertIn("hexd-solve: White resigns at move 4.\n", run.stderr)
+
+    def test_what_it_refuses(self):
+        for words, given, status, said in (
+            (["none.sgf"], "", 1, "hexd-solve: none.sgf: No such file or directory\n"),
+            ([], "no record", 1, "hexd-solve: -: it is no record of a game\n"),
+            (["--budget=0"], "", 2, None),
+            (["--program", "/bin/true"], EMPTY, 1, None),
+            (["--program", "/nowhere"], EMPTY, 1, "hexd-solve: /nowhere: No such file or directory\n"),
+        ):
+            run = ran(*words, given=given)
+            self.assertEqual((status, ""), (run.returncode, run.stdout))
+            self.assertEqual(1, len(run.stderr.splitlines()))
+            if said:
+                self.assertEqual(said, run.stderr)
+        with open("/dev/full", "w") as full:
+            run = subprocess.run([SOLVE], input=b"(;SZ[2])", stdout=full, stderr=subprocess.PIPE, timeout=LIMIT_SECONDS)
+        self.assertEqual(1, run.returncode)
+        self.assertTrue(run.stderr.endswith(b"hexd-solve: standard output: No space left on device\n"))
+
+    def started(self, *words):
+        pipe = subprocess.PIPE
+        process = subprocess.Popen(dying(SOLVE, *words), stdin=pipe, stdout=pipe, stderr=pipe, text=True)
+        process.stdin.write(EMPTY)
+        process.stdin.close()
+        process.stdin = None
+        return process
+
+    def test_ctrl_c_leaves_what_it_has(self):
+        process = self.started("--hsearch", "off", "--budget", f"{10**15}")
+        lines = [first_line(process.stderr), first_line(process.stderr)]
+        process.send_signal(signal.SIGINT)
+        said, errors = process.communicate(timeout=LIMIT_SECONDS)
+        known = re.findall("^hexd-solve: (unknown [0-9]+), with", "".join(lines) + errors, re.M)
+        self.assertEqual((130, known[-1] + "\n"), (process.returncode, said))
+        self.assertTrue(errors.endswith("hexd-solve: stopped; what is known stands\n"), errors)
+
+    def test_it_ends_with_hexd(self):
+        with tempfile.TemporaryDirectory() as folder:
+            program = Path(folder) / "hexd"
+            # It says that it has its input: until then the launcher may have other children.
+            program.write_text('#!/bin/sh\ncat >/dev/null\necho $$ >"$0.pid"\nexec sleep 1000\n')
+            program.chmod(0o755)
+            at_work = Path(f"{program}.pid")
+            for number, status, said in (
+                (signal.SIGINT, 130, "hexd-solve: stopped before anything was known\n"),
+                (signal.SIGTERM, 143, ""),
+                (signal.SIGHUP, 129, ""),
+            ):
+                process = self.started("--program", program)
+                child = int(until(lambda: at_work.exists() and at_work.read_text(), "hexd is at work"))
+                at_work.unlink()
+                process.send_signal(number)
+                self.assertEqual(("", said), process.communicate(timeout=LIMIT_SECONDS))
+                self.assertEqual(status, process.returncode)
+                until(lambda: not is_running(child), "hexd has ended")

@@ -1,0 +1,1 @@
+-- Nothing is to be read: no proof is written by hand.

@@ -1,0 +1,103 @@
+//! Entries: connections of two elements.
+
+use conn_store::Kind;
+use hex_cells::CellSet;
+
+/// The rule by which an entry follows, and the numbers of its premises.
+#[derive(Clone, Copy, Debug, PartialEq, Eq)]
+pub enum Cause {
+    /// The elements lie side by side.
+    Adjacent,
+    /// Two full entries meet in a group.
+    And(u32, u32),
+    /// Two full entries meet in an empty cell.
+    Key(u32, u32),
+    /// Two semi entries of the same elements, whose carriers have no cell in common.
+    Or2(u32, u32),
+    /// Three of them.
+    Or3(u32, u32, u32),
+}
+
+/// What becomes of an entry.
+#[derive(Clone, Copy, Debug, PartialEq, Eq)]
+pub(crate) enum State {
+    /// It is not yet combined with others.
+    Waiting,
+    /// It is.
+    Taken,
+    /// A narrower one stands in its place.
+    GivenUp,
+}
+
+/// A connection of two elements.
+#[derive(Clone, Copy, Debug, PartialEq, Eq)]
+pub struct Entry {
+    pub kind: Kind,
+    /// The lesser element; the edges are 0 and 1.
+    pub x: u8,
+    pub y: u8,
+    pub carrier: CellSet,
+    pub cause: Cause,
+    pub(crate) state: State,
+    /// The lines of its derivation, those that it uses twice counted twice, if lines are counted.
+    pub lines: u32,
+}
+
+impl Entry {
+    /// An entry that waits.
+    #[inline(always)]
+    pub(crate) fn of(kind: Kind, x: u8, y: u8, carrier: CellSet, cause: Cause) -> Entry {
+        let (x, y) = if x < y { (x, y) } else { (y, x) };
+        Entry {
+            kind,
+            x,
+            y,
+            carrier,
+            cause,
+            state: State::Waiting,
+            lines: 0,
+        }
+    }
+
+    /// Whether it connects the player's edges.
+    #[inline(always)]
+    pub(crate) fn is_between_edges(&self) -> bool {
+        self.x == 0 && self.y == 1
+    }
+
+    /// Whether a narrower one stands in its place.
+    pub fn is_given_up(&self) -> bool {
+        self.state == State::GivenUp
+    }
+}
+
+/// An end of a connection.
+#[derive(Clone, Copy, Debug, PartialEq, Eq, PartialOrd, Ord, Hash)]
+pub enum End {
+    /// The element with this least cell.
+    At(u32),
+    /// The player's first edge.
+    First,
+    /// His second edge.
+    Second,
+}
+
+/// The premises of a cause.
+#[derive(Clone, Copy, Debug, PartialEq, Eq)]
+pub(crate) struct Premises {
+    pub numbers: [Option<u32>; 3],
+}
+
+impl Cause {
+    /// The numbers of its premises.
+    pub(crate) fn premises(self) -> Premises {
+        let numbers = match self {
+            Cause::Adjacent => [None, None, None],
+            Cause::And(i, j) => [Some(i), Some(j), None],
+            Cause::Key(i, j) => [Some(i), Some(j), None],
+            Cause::Or2(i, j) => [Some(i), Some(j), None],
+            Cause::Or3(i, j, k) => [Some(i), Some(j), Some(k)],
+        };
+        Premises { numbers }
+    }
+}

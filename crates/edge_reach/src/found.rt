@@ -1,0 +1,278 @@
+//! What a report found so far: its entries, by pair and kind.
+
+use super::entries::{Cause, Entry, State};
+use super::held::{Held, MOST_FULL, MOST_SEMI, give_up};
+use super::queues::Queue;
+use conn_store::Kind;
+use hex_cells::{CellSet, Size};
+use std::alloc::{AllocError, Global};
+
+/// How much a report keeps.
+#[derive(Clone, Copy, Debug, PartialEq, Eq)]
+pub struct Limits {
+    /// Full entries of a pair, at most [`MOST_FULL`].
+    pub full: usize,
+    /// Semi entries of a pair that isn't the edges, at most [`MOST_SEMI`].
+    pub semi: usize,
+    /// Semi entries between the edges. Beyond them one is kept if it leaves fewer cells in common.
+    pub edge_semi: usize,
+    /// Whether lines are counted, and an entry that is found again takes the shorter derivation.
+    pub counts_lines: bool,
+}
+
+// No derivation is said to have more lines.
+const MOST_LINES: u32 = 1 << 28;
+
+/// The entries of a report.
+#[derive(Drop)]
+pub(crate) struct Found {
+    limits: Limits,
+    entries: Vec<Entry>,
+    fulls: Vec<Held<MOST_FULL>>,
+    semis: Vec<Held<MOST_SEMI>>,
+    queue: Queue,
+    edge_full: Vec<u32>,
+    edge_semi: Vec<u32>,
+    // The cells that all semi entries between the edges have in common.
+    common: CellSet,
+}
+
+// The place of a pair.
+#[inline(always)]
+fn pair_of(x: u8, y: u8) -> usize {
+    let (x, y) = (x as usize, y as usize);
+    y * y.saturating_sub(1) / 2 + x
+}
+
+impl Found {
+    /// Nothing yet.
+    pub(crate) fn make(alloc: Global, size: Size, limits: Limits) -> Result<Found, AllocError> {
+        // Two groups have the edges, and each other element has a cell.
+        let elements = size.cells() as usize + 2;
+        let pairs = elements * (elements - 1) / 2;
+        let queue = Queue::make(alloc)?;
+        let fulls = vec![in alloc; Held::none(); pairs]?;
+        let semis = vec![in alloc; Held::none(); pairs]?;
+        Ok(Found {
+            limits,
+            entries: Vec::new(alloc),
+            fulls,
+            semis,
+            queue,
+            edge_full: Vec::new(alloc),
+            edge_semi: Vec::new(alloc),
+            common: CellSet::none(),
+        })
+    }
+
+    /// Takes all away, for a report of so many elements in this region.
+    pub(crate) fn clear(&mut self, elements: usize, region: CellSet) {
+        let count = elements.saturating_mul(elements) / 2;
+        for held in self.fulls.iter_mut().take(count) {
+            held.clear();
+        }
+        for held in self.semis.iter_mut().take(count) {
+            held.clear();
+        }
+        self.entries.clear();
+        self.queue.clear();
+        self.edge_full.clear();
+        self.edge_semi.clear();
+        self.common = region;
+    }
+
+    /// The entries, in the order in which they were found.
+    pub(crate) fn entries(&self) -> &[Entry] {
+        &self.entries
+    }
+
+    /// The numbers of the entries between the edges.
+    pub(crate) fn between_edges(&self, kind: Kind) -> &[u32] {
+        match kind {
+            Kind::Full => &self.edge_full,
+            Kind::Semi => &self.edge_semi,
+        }
+    }
+
+    /// The cells that all semi entries between the edges have in common.
+    pub(crate) fn common(&self) -> CellSet {
+        self.common
+    }
+
+    /// Whether a pair has a full entry.
+    pub(crate) fn has_full(&self, x: u8, y: u8) -> bool {
+        let held = self.fulls.get(pair_of(x, y));
+        held.is_some_and(|held| 0 < held.count())
+    }
+
+    /// The semi entries of a pair.
+    #[inline(always)]
+    pub(crate) fn semis(&self, x: u8, y: u8) -> Option<&Held<MOST_SEMI>> {
+        self.semis.get(pair_of(x, y))
+    }
+
+    /// Whether the entry was combined with others.
+    #[inline(always)]
+    pub(crate) fn is_taken(&self, number: u32) -> bool {
+        let entry = self.entries.get(number as usize);
+        entry.is_some_and(|entry| entry.state == State::Taken)
+    }
+
+    /// Takes the next entry that waits; `None` if none does.
+    pub(crate) fn take(&mut self) -> Option<(u32, Entry)> {
+        for _given_up in 0..u32::MAX {
+            let number = self.queue.take()?;
+            if let Some(entry) = self.entries.get_mut(number as usize)
+                && entry.state == State::Waiting
+            {
+                entry.state = State::Taken;
+                return Some((number, *entry));
+            }
+        }
+        None
+    }
+
+    /// Adds an entry, unless there is a narrower one or too many.
+    #[inline(always)]
+    pub(crate) fn add(&mut self, entry: Entry) -> Result<(), AllocError> {
+        match entry.kind {
+            Kind::Full => self.add_full(entry),
+            Kind::Semi if entry.is_between_edges() => self.add_edge_semi(entry),
+            Kind::Semi => self.add_semi(entry),
+        }
+    }
+
+    fn add_full(&mut self, entry: Entry) -> Result<(), AllocError> {
+        let Some(held) = self.fulls.get_mut(pair_of(entry.x, entry.y)) else {
+            return Ok(());
+        };
+        if let Some(narrower) = held.first_inside(entry.carrier) {
+            self.shorten(narrower, entry);
+            return Ok(());
+        }
+        held.give_up_around(entry.carrier, &mut self.entries);
+        if !held.makes_room(self.limits.full, entry.carrier, &mut self.entries) {
+            return Ok(());
+        }
+        let Ok(number) = u32::try_from(self.entries.len()) else {
+            return Ok(());
+        };
+        held.push(entry.carrier, number);
+        if entry.is_between_edges() {
+            self.edge_full.push(number)?;
+        }
+        self.enlist(entry, number)
+    }
+
+    fn add_semi(&mut self, entry: Entry) -> Result<(), AllocError> {
+        let pair = pair_of(entry.x, entry.y);
+        let Some(held) = self.semis.get_mut(pair) else {
+            return Ok(());
+        };
+        if let Some(narrower) = held.first_inside(entry.carrier) {
+            self.shorten(narrower, entry);
+            return Ok(());
+        }
+        if let Some(full) = self.fulls.get(pair)
+            && full.first_inside(entry.carrier).is_some()
+        {
+            return Ok(());
+        }
+        held.give_up_around(entry.carrier, &mut self.entries);
+        if !held.makes_room(self.limits.semi, entry.carrier, &mut self.entries) {
+            return Ok(());
+        }
+        let Ok(number) = u32::try_from(self.entries.len()) else {
+            return Ok(());
+        };
+        held.push(entry.carrier, number);
+        self.enlist(entry, number)
+    }
+
+    fn add_edge_semi(&mut self, entry: Entry) -> Result<(), AllocError> {
+        let carrier = entry.carrier;
+        if let Some(narrower) = first_inside(&self.edge_semi, &self.entries, carrier) {
+            self.shorten(narrower, entry);
+            return Ok(());
+        }
+        give_up_around(&mut self.edge_semi, &mut self.entries, carrier);
+        if self.limits.edge_semi <= self.edge_semi.len() && self.common.inside(carrier) {
+            return Ok(());
+        }
+        let Ok(number) = u32::try_from(self.entries.len()) else {
+            return Ok(());
+        };
+        self.edge_semi.push(number)?;
+        self.common = self.common.meet(carrier);
+        self.enlist(entry, number)
+    }
+
+    // Puts a new entry behind the others, to wait.
+    #[inline(always)]
+    fn enlist(&mut self, entry: Entry, number: u32) -> Result<(), AllocError> {
+        let mut entry = entry;
+        if self.limits.counts_lines {
+            entry.lines = self.lines_by(entry.cause);
+        }
+        self.queue.put(entry.carrier.count(), number)?;
+        self.entries.push(entry)?;
+        Ok(())
+    }
+
+    // The lines of a derivation by this cause.
+    fn lines_by(&self, cause: Cause) -> u32 {
+        let mut lines = 1u32;
+        for premise in cause.premises().numbers {
+            if let Some(number) = premise
+                && let Some(entry) = self.entries.get(number as usize)
+            {
+                lines = lines.saturating_add(entry.lines);
+            }
+        }
+        lines.min(MOST_LINES)
+    }
+
+    // If this is the same entry, and lines are counted, gives it the shorter derivation.
+    #[inline(always)]
+    fn shorten(&mut self, there: (CellSet, u32), entry: Entry) {
+        if self.limits.counts_lines && there.0 == entry.carrier {
+            let lines = self.lines_by(entry.cause);
+            if let Some(old) = self.entries.get_mut(there.1 as usize)
+                && lines < old.lines
+            {
+                old.lines = lines;
+                old.cause = entry.cause;
+            }
+        }
+    }
+}
+
+// The first of these entries whose carrier lies inside this one.
+fn first_inside(numbers: &[u32], entries: &[Entry], carrier: CellSet) -> Option<(CellSet, u32)> {
+    for number in numbers {
+        if let Some(entry) = entries.get(*number as usize)
+            && entry.carrier.inside(carrier)
+        {
+            return Some((entry.carrier, *number));
+        }
+    }
+    None
+}
+
+// Gives up those of these entries that lie around the carrier.
+fn give_up_around(numbers: &mut Vec<u32>, entries: &mut [Entry], carrier: CellSet) {
+    let mut kept = 0usize;
+    for place in 0..numbers.len() {
+        if let Some(number) = numbers.get(place).copied()
+            && let Some(entry) = entries.get(number as usize)
+        {
+            if carrier.inside(entry.carrier) {
+                give_up(entries, number);
+            } else if let Some(there) = numbers.get_mut(kept) {
+                *there = number;
+                kept = kept.saturating_add(1);
+            }
+        }
+    }
+    numbers.truncate(kept);
+}

@@ -1,0 +1,51 @@
+//! Connections between a player's edges: an H-search that is made for a solver.
+//!
+//! **Nouns.** An *entry* is a connection of two of the player's *elements* (his groups with the
+//! edges, and the empty cells): full if he joins them even if the opponent moves first, semi if he
+//! has to move first. Its *carrier* has the cells that this needs to be empty. A *question* is of a
+//! player, his stones, and a region of empty cells; the opponent has all other cells.
+//!
+//! **A caller** makes a [`Reach`] once, asks it one question after another ([`Reach::report`]),
+//! and reads what it found: [`Reach::between_edges`], [`Reach::entry`], [`Reach::derivation`], and
+//! the [`currents`].
+//!
+//! **What is proved.** That each call is safe and ends. Nothing of the entries: whoever makes a
+//! certificate of them has it checked.
+//!
+//! **What is only tested, or not said.** That the entries are true, and how many are found. What
+//! the calls that read a report answer: no clause has a name for what a report keeps. That currents
+//! are those of the circuit, up to what is rounded.
+//!
+//! **Limits.** Those that a [`Reach`] is made with ([`Limits`]), at most [`MOST_FULL`] full and
+//! [`MOST_SEMI`] semi entries of a pair. Memory is kept from report to report.
+//!
+//! **Why so.**
+//!
+//! - `hsearch` keeps few entries of each pair and is closed under its rules, which is proved. A
+//!   search that wants many entries soon is served better by more of them, by narrower ones in
+//!   place of wider ones, and by an end as soon as what it asks for is there.
+//! - Entries are taken in the order of their carriers' sizes: what is narrow makes more of others
+//!   needless.
+//! - Elements are taken out of a circuit from the last one down, each by the star-mesh rule: an
+//!   element with wires a, b, .. of the sum G gives way to a wire of a·b/G between each two of its
+//!   neighbours. What is left in its row are the shares a/G, from which potentials follow upwards.
+//!   In whole numbers the result is the same on every machine.
+//!
+//! Source: H-search (V. Anshelevich); the electrical circuit over virtual connections is his, too.
+#![tactic(auto)]
+
+mod circuits;
+mod elements;
+mod entries;
+mod found;
+mod held;
+mod queues;
+mod reports;
+mod walks;
+
+pub use circuits::{Circuit, FLOW};
+pub use elements::{Cells, cells_of};
+pub use entries::{Cause, End, Entry};
+pub use found::Limits;
+pub use held::{MOST_FULL, MOST_SEMI};
+pub use reports::{Question, Reach, Until};

@@ -1,0 +1,254 @@
+//! Reports: H-search, small carriers first.
+
+use super::circuits::Circuit;
+use super::elements::Elements;
+use super::entries::{Cause, End, Entry};
+use super::found::{Found, Limits};
+use super::walks::Walk;
+use conn_store::Kind;
+use hex_board::MOST_ELEMENTS;
+use hex_cells::{CellSet, Colour, Size};
+use std::alloc::{AllocError, Global};
+
+/// What a report is about: a player with these stones on a board where the cells of the region are
+/// empty, and all others are the opponent's.
+#[derive(Clone, Copy, Debug, PartialEq, Eq)]
+pub struct Question {
+    pub size: Size,
+    pub player: Colour,
+    pub stones: CellSet,
+    pub region: CellSet,
+}
+
+/// When a report may end.
+#[derive(Clone, Copy, Debug, PartialEq, Eq)]
+pub enum Until {
+    /// When no rule gives an entry more.
+    Closed,
+    /// At the first entry between the edges.
+    FirstWin,
+    /// At a full entry between the edges, or when the semi ones have no cell in common.
+    Threats,
+}
+
+// A full entry as its one end sees it: the other end, the carrier and the number.
+#[derive(Clone, Copy, Debug)]
+struct Way {
+    to: u8,
+    carrier: CellSet,
+    number: u32,
+}
+
+/// Reports, one after another, in the same memory.
+#[derive(Drop)]
+pub struct Reach {
+    elements: Elements,
+    found: Found,
+    // For each element the full entries that were taken.
+    ways: Vec<Vec<Way>>,
+    // The semi entries of a pair that were taken.
+    others: Vec<(CellSet, u32)>,
+    walk: Walk,
+}
+
+impl Reach {
+    /// Memory for reports with these limits on boards of this size.
+    pub fn make(alloc: Global, size: Size, limits: Limits) -> Result<Reach, AllocError> {
+        let found = Found::make(alloc, size, limits)?;
+        let mut ways = Vec::new(alloc);
+        for _element in 0..MOST_ELEMENTS {
+            ways.push(Vec::new(alloc))?;
+        }
+        Ok(Reach {
+            elements: Elements::none(),
+            found,
+            ways,
+            others: Vec::new(alloc),
+            walk: Walk::make(alloc),
+        })
+    }
+
+    /// The numbers of the entries between the edges, those that were given up among them.
+    pub fn between_edges(&self, kind: Kind) -> &[u32] {
+        self.found.between_edges(kind)
+    }
+
+    /// How many entries there are.
+    pub fn count(&self) -> usize {
+        self.found.entries().len()
+    }
+
+    /// The entry with this number.
+    pub fn entry(&self, number: u32) -> Option<&Entry> {
+        self.found.entries().get(number as usize)
+    }
+
+    /// The entries on which one rests, each behind those on which it rests, itself the last.
+    pub fn derivation(&mut self, number: u32) -> Result<&[u32], AllocError> {
+        self.walk.walk(self.found.entries(), number)
+    }
+
+    /// How an element is named at the end of a connection.
+    pub fn end(&self, element: u8) -> End {
+        self.elements.end(element)
+    }
+
+    /// Makes a circuit that of this report.
+    pub fn load_circuit(&self, circuit: &mut Circuit) {
+        circuit.load(&self.elements, &self.found);
+    }
+
+    /// Makes the report that answers the question.
+    pub fn report(&mut self, question: &Question, until: Until) -> Result<(), AllocError> {
+        self.elements.load(question);
+        self.found.clear(self.elements.count(), question.region);
+        for ways in self.ways.iter_mut() {
+            ways.clear();
+        }
+        for element in 1..self.elements.count() {
+            self.add_near(question, element)?;
+        }
+        for _taken in 0..u32::MAX {
+            let Some((number, entry)) = self.found.take() else {
+                return Ok(());
+            };
+            if self.is_enough(&entry, until) {
+                return Ok(());
+            }
+            if !entry.is_between_edges() {
+                self.combine(number, &entry)?;
+            }
+            if until == Until::Threats && self.found.common().is_empty() {
+                return Ok(());
+            }
+        }
+        Ok(())
+    }
+
+    // Adds the entries of an element and those below it that lie side by side.
+    fn add_near(&mut self, question: &Question, element: usize) -> Result<(), AllocError> {
+        let near = self.elements.near_below(element, question);
+        for below in 0..element.min(MOST_ELEMENTS) {
+            if near >> below & 1 == 1 {
+                let (x, y) = (below as u8, (element % MOST_ELEMENTS) as u8);
+                let entry = Entry::of(Kind::Full, x, y, CellSet::none(), Cause::Adjacent);
+                self.found.add(entry)?;
+            }
+        }
+        Ok(())
+    }
+
+    // Whether the entry that was taken ends the report.
+    fn is_enough(&self, entry: &Entry, until: Until) -> bool {
+        entry.is_between_edges()
+            && match until {
+                Until::Closed => false,
+                Until::FirstWin => true,
+                Until::Threats => { entry.kind == Kind::Full || self.found.common().is_empty() }
+            }
+    }
+
+    // Adds what follows from an entry with those that were taken before it.
+    fn combine(&mut self, number: u32, entry: &Entry) -> Result<(), AllocError> {
+        match entry.kind {
+            Kind::Semi => self.unite(number, entry),
+            Kind::Full => {
+                self.join(number, entry, entry.y, entry.x)?;
+                self.join(number, entry, entry.x, entry.y)?;
+                self.add_way(entry.x, entry.y, entry.carrier, number)?;
+                self.add_way(entry.y, entry.x, entry.carrier, number)
+            }
+        }
+    }
+
+    // Says that a full entry leads from one element to another.
+    fn add_way(
+        &mut self,
+        from: u8,
+        to: u8,
+        carrier: CellSet,
+        number: u32,
+    ) -> Result<(), AllocError> {
+        if let Some(ways) = self.ways.get_mut(from as usize) {
+            ways.push(Way {
+                to,
+                carrier,
+                number,
+            })?;
+        }
+        Ok(())
+    }
+
+    // The rules of AND: a full entry, from `end` to `middle`, with those that lead on from there.
+    fn join(&mut self, number: u32, entry: &Entry, end: u8, middle: u8) -> Result<(), AllocError> {
+        if middle < 2 {
+            return Ok(());
+        }
+        let between = self.elements.alone(middle as usize);
+        let end_cell = self.elements.alone(end as usize);
+        let Some(ways) = self.ways.get(middle as usize) else {
+            return Ok(());
+        };
+        for way in ways {
+            if way.to != end
+                && !way.carrier.meets(entry.carrier.union(end_cell))
+                && !self.elements.alone(way.to as usize).meets(entry.carrier)
+            {
+                let carrier = entry.carrier.union(way.carrier);
+                let joined = if between.is_empty() {
+                    let cause = Cause::And(number, way.number);
+                    Entry::of(Kind::Full, end, way.to, carrier, cause)
+                } else {
+                    let cause = Cause::Key(number, way.number);
+                    Entry::of(Kind::Semi, end, way.to, carrier.union(between), cause)
+                };
+                self.found.add(joined)?;
+            }
+        }
+        Ok(())
+    }
+
+    // The rule of OR: a semi entry with one or two others of its pair.
+    fn unite(&mut self, number: u32, entry: &Entry) -> Result<(), AllocError> {
+        self.list_others(number, entry)?;
+        let (x, y) = (entry.x, entry.y);
+        for place in 0..self.others.len() {
+            let Some((carrier, second)) = self.others.get(place).copied() else {
+                return Ok(());
+            };
+            let common = entry.carrier.meet(carrier);
+            let both = entry.carrier.union(carrier);
+            if common.is_empty() {
+                let cause = Cause::Or2(number, second);
+                let united = Entry::of(Kind::Full, x, y, both, cause);
+                self.found.add(united)?;
+                continue;
+            }
+            for (carrier, third) in &self.others[..place] {
+                if !common.meets(*carrier) {
+                    let cause = Cause::Or3(number, second, *third);
+                    let united = Entry::of(Kind::Full, x, y, both.union(*carrier), cause);
+                    self.found.add(united)?;
+                }
+            }
+        }
+        Ok(())
+    }
+
+    // Lists the semi entries of the pair that were taken before.
+    fn list_others(&mut self, number: u32, entry: &Entry) -> Result<(), AllocError> {
+        self.others.clear();
+        let Some(held) = self.found.semis(entry.x, entry.y) else {
+            return Ok(());
+        };
+        for place in 0..held.count() {
+            if let Some((carrier, other)) = held.at(place)
+                && other != number
+                && self.found.is_taken(other)
+            {
+                self.others.push((carrier, other))?;
+            }
+        }
+        Ok(())
+    }
+}

@@ -1,0 +1,83 @@
+//! Derivations: the entries on which an entry rests.
+
+use super::entries::Entry;
+use std::alloc::{AllocError, Global};
+
+// A step of a walk through premises.
+#[derive(Clone, Copy, Debug, PartialEq, Eq)]
+enum Step {
+    // To an entry, before its premises.
+    Enter(u32),
+    // Behind its premises.
+    Leave(u32),
+}
+
+/// Room for walks, used again and again.
+#[derive(Drop)]
+pub(crate) struct Walk {
+    seen: Vec<bool>,
+    open: Vec<Step>,
+    order: Vec<u32>,
+}
+
+impl Walk {
+    /// Room that is empty.
+    pub(crate) fn make(alloc: Global) -> Walk {
+        Walk {
+            seen: Vec::new(alloc),
+            open: Vec::new(alloc),
+            order: Vec::new(alloc),
+        }
+    }
+
+    /// The entries on which one rests, each behind those on which it rests, the one itself the
+    /// last.
+    pub(crate) fn walk(&mut self, entries: &[Entry], number: u32) -> Result<&[u32], AllocError> {
+        if self.seen.len() < entries.len() {
+            self.seen.resize(entries.len(), false)?;
+        }
+        self.order.clear();
+        self.open.clear();
+        self.open.push(Step::Enter(number))?;
+        for _step in 0..u32::MAX {
+            match self.open.pop() {
+                None => break,
+                Some(Step::Leave(number)) => self.order.push(number)?,
+                Some(Step::Enter(number)) => self.enter(entries, number)?,
+            }
+        }
+        self.forget();
+        Ok(&self.order)
+    }
+
+    // Opens the premises of an entry that was not seen.
+    fn enter(&mut self, entries: &[Entry], number: u32) -> Result<(), AllocError> {
+        let Some(entry) = entries.get(number as usize) else {
+            return Ok(());
+        };
+        let Some(seen) = self.seen.get_mut(number as usize) else {
+            return Ok(());
+        };
+        if *seen {
+            return Ok(());
+        }
+        *seen = true;
+        self.open.push(Step::Leave(number))?;
+        let [first, second, third] = entry.cause.premises().numbers;
+        for premise in [third, second, first] {
+            if let Some(number) = premise {
+                self.open.push(Step::Enter(number))?;
+            }
+        }
+        Ok(())
+    }
+
+    // Nothing was seen.
+    fn forget(&mut self) {
+        for number in self.order.iter() {
+            if let Some(seen) = self.seen.get_mut(*number as usize) {
+                *seen = false;
+            }
+        }
+    }
+}

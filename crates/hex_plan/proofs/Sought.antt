@@ -1,0 +1,31 @@
+-- What is planned with a budget for certificates.
+use Rattle.std.proofs.Common.{◌≡◌, ◌⊎◌, ◌<◌, ℕ, Bool, true, inl, inr, zero, suc, arith}
+use Rattle.std.specs.Prelude.{IfOk, Ok, Err, Result}
+use Rattle.hex_cells.specs.declared.colours.Colour.{Colour}
+use Rattle.hex_board.specs.Positions.{Position}
+use Rattle.hex_plan.specs.Plans.{IsConnected, IsPlannedFor, IsSolved}
+use Rattle.hex_plan.specs.declared.plans.Planned.{Planned}
+
+-- whatever the budget, a plan may rest on connections
+sought : (solve : ℕ) (board : Position) (player : Colour) (p : Planned)
+    → IsConnected board player p → IsPlannedFor board player true solve p
+sought zero board player p h = h
+sought (suc n) board player p h = inl h
+
+pub if_sought : {E : Type 0} (solve : ℕ) (board : Position) (player : Colour)
+    (r : Result Planned E) → IfOk r (IsConnected board player)
+    → IfOk r (IsPlannedFor board player true solve)
+if_sought solve board player (Ok p) h = sought solve board player p h
+if_sought solve board player (Err e) h = tt
+
+-- with a budget, on a certificate
+pub solved : (solve : ℕ) (board : Position) (player : Colour) (p : Planned) → 0 < solve
+    → IsSolved board player p → IsPlannedFor board player true solve p
+solved zero board player p l h = absurd (omega (arith, l))
+solved (suc n) board player p l h = inr h
+
+-- and on nothing else
+pub rests : (solve : ℕ) (board : Position) (player : Colour) (p : Planned)
+    → IsPlannedFor board player true solve p → IsConnected board player p ⊎ IsSolved board player p
+rests zero board player p h = inl h
+rests (suc n) board player p h = h

@@ -1,0 +1,1 @@
+-- Nothing is to be read: each loop has an invariant of one line.

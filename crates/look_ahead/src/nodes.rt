@@ -1,0 +1,96 @@
+//! The nodes of a search, and their kids.
+
+use super::values::{WON, turned};
+use hex_cells::Cell;
+
+/// The place of no node.
+pub(crate) const NOWHERE: u32 = u32::MAX;
+
+/// What is known of a node, for the player to move.
+#[derive(Clone, Copy, Debug, PartialEq, Eq)]
+pub(crate) enum State {
+    Open,
+    Won,
+    Lost,
+}
+
+/// A board that was judged.
+#[derive(Clone, Copy, Debug, PartialEq, Eq)]
+pub(crate) struct Node {
+    pub state: State,
+    /// Where its kids begin, and how many they are.
+    pub first: u32,
+    pub count: u32,
+    /// How many walks came here, and the sum of the values that they had.
+    pub visits: u64,
+    pub sum: u64,
+}
+
+/// A cell on which the player to move at a node may place.
+#[derive(Clone, Copy, Debug, PartialEq, Eq)]
+pub(crate) struct Kid {
+    pub cell: Cell,
+    pub prior: u32,
+    /// The place of its node, or [`NOWHERE`].
+    pub node: u32,
+}
+
+impl Node {
+    /// A node that is won or lost.
+    pub(crate) fn decided(state: State) -> Node {
+        Node {
+            state,
+            first: 0,
+            count: 0,
+            visits: 1,
+            sum: value_in(state, WON / 2),
+        }
+    }
+
+    /// An open node with this value.
+    pub(crate) fn open(value: u64, first: u32, count: u32) -> Node {
+        Node {
+            state: State::Open,
+            first,
+            count,
+            visits: 1,
+            sum: value,
+        }
+    }
+
+    /// The mean of its values.
+    pub(crate) fn mean(&self) -> u64 {
+        self.sum / self.visits.max(1)
+    }
+
+    /// Its value at the end of a walk.
+    pub(crate) fn value(&self) -> u64 {
+        value_in(self.state, self.sum)
+    }
+
+    /// The mean of its values, or its value if it is won or lost.
+    pub(crate) fn known_mean(&self) -> u64 {
+        value_in(self.state, self.mean())
+    }
+
+    /// It takes the value with which a walk came back from a kid's node, which is lost or not, and
+    /// answers its own. A lost kid wins it.
+    pub(crate) fn take(&mut self, below: u64, is_lost: bool) -> u64 {
+        let value = if is_lost { WON } else { turned(below) };
+        if is_lost {
+            self.state = State::Won;
+        }
+        self.visits = self.visits.saturating_add(1);
+        self.sum = self.sum.saturating_add(value);
+        value
+    }
+}
+
+// The value in a state, if an open node has this one.
+fn value_in(state: State, open: u64) -> u64 {
+    match state {
+        State::Open => open,
+        State::Won => WON,
+        State::Lost => 0,
+    }
+}

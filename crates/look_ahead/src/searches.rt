@@ -1,0 +1,195 @@
+//! The best-first search, without recursion.
+
+ghost use Rattle.std.specs.Prelude.{◌≡◌, ◌+◌, ◌≤◌, ◌<◌, ℕ, IfOk, true, false, length};
+ghost use Rattle.hex_cells.specs.Sets.{has};
+
+use super::nodes::{Kid, NOWHERE, Node, State};
+use super::refusals::Memory;
+use super::rows::Looked;
+use circuit::Circuit;
+use hex_board::Board;
+use hex_cells::{Cell, CellSet, Colour, MOST_CELLS};
+use hsearch::Report;
+use std::alloc::Global;
+
+// So many walks are made for each node of the budget at most: some end at a node that is known.
+const WALKS_PER_NODE: u64 = 4;
+
+/// A board with the player to move, and the reports of both players, if they are known.
+#[derive(Clone, Copy)]
+pub struct Root<'a> {
+    pub board: &'a Board,
+    pub colour: Colour,
+    pub own: Option<&'a Report>,
+    pub other: Option<&'a Report>,
+}
+
+/// A search, with memory that is used again.
+#[derive(Drop)]
+pub struct Look {
+    pub(super) own: Circuit,
+    pub(super) other: Circuit,
+    pub(super) nodes: Vec<Node>,
+    pub(super) kids: Vec<Kid>,
+    // The places of the nodes of a walk.
+    pub(super) path: Vec<u32>,
+    // Reports whose memory the next ones take: the player's to move, and the other's.
+    pub(super) own_report: Option<Report>,
+    pub(super) other_report: Option<Report>,
+}
+
+impl Look {
+    /// A search without nodes.
+    pub fn make(alloc: Global) -> Result<Look, Memory> {
+        let own = Circuit::make(alloc)?;
+        let other = Circuit::make(alloc)?;
+        Ok(Look {
+            own,
+            other,
+            nodes: Vec::new(alloc),
+            kids: Vec::new(alloc),
+            path: Vec::new(alloc),
+            own_report: None,
+            other_report: None,
+        })
+    }
+
+    /// What is found of the cells of `must`, on which the root's player is to place a stone, with
+    /// the one that is chosen: that after which the other player is known to lose, or else the one
+    /// by which most walks went, and of as many the one with the greatest prior. At most `budget`
+    /// nodes are judged, and at least the root, by the reports of both players that it has, if any.
+    ///
+    /// It refuses only if memory runs out. A body is proved that takes any cell of `must`.
+    pub fn choose(
+        &mut self,
+        alloc: Global,
+        root: &Root<'_>,
+        must: CellSet,
+        budget: u32,
+    ) -> Result<Looked, Memory>
+        requires some { (k : ℕ) × (has must k ≡ true) }
+        requires budget { 1 ≤ budget }
+        ensures inside { IfOk result (λ looked. has must looked.cell ≡ true) }
+        ensures few { IfOk result (λ looked. looked.nodes ≤ budget) }
+    {
+        self.nodes.clear();
+        self.kids.clear();
+        let first = self.opened_root(alloc, root, must)?;
+        self.nodes.push(first)?;
+        'walks: for _walk in 0..u64::from(budget) * WALKS_PER_NODE {
+            if self.is_done(budget) {
+                break;
+            }
+            self.walk(alloc, root.board, root.colour)?;
+        }
+        let cell = self.best_of(must);
+        let nodes = self.nodes.len() as u32;
+        let rows = self.rows(alloc)?;
+        Ok(Looked::of(cell, nodes, rows))
+    }
+
+    // Whether as many nodes were judged, or the root is decided.
+    fn is_done(&self, budget: u32) -> bool
+        ensures { result ≡ false → length self.now.nodes.items < budget }
+    {
+        self.nodes.len() >= budget as usize || self.state_at(0) != State::Open
+    }
+
+    // One walk, with one new node where it ends at none that is known.
+    fn walk(&mut self, alloc: Global, board: &Board, colour: Colour) -> Result<(), Memory>
+        ensures { length self.new.nodes.items ≤ length self.old.nodes.items + 1 }
+    {
+        self.path.clear();
+        self.down(alloc, board, colour)?;
+        self.up();
+        Ok(())
+    }
+
+    // Down to a new node, or to one that is known.
+    fn down(&mut self, alloc: Global, board: &Board, colour: Colour) -> Result<(), Memory>
+        ensures { length self.new.nodes.items ≤ length self.old.nodes.items + 1 }
+    {
+        let mut now = *board;
+        let mut mover = colour;
+        let mut place = 0u32;
+        'stones: for _depth in 0..MOST_CELLS {
+            self.path.push(place)?;
+            let Some((number, kid)) = self.next(place) else {
+                return Ok(());
+            };
+            now = with_stone(&now, mover, kid.cell);
+            mover = mover.other();
+            if kid.node == NOWHERE {
+                return self.enter(alloc, &now, mover, number);
+            }
+            place = kid.node;
+        }
+        Ok(())
+    }
+
+    // Judges the board after the kid with this number, and makes a node of it.
+    fn enter(
+        &mut self,
+        alloc: Global,
+        board: &Board,
+        mover: Colour,
+        number: u32,
+    ) -> Result<(), Memory>
+        ensures { length self.new.nodes.items ≤ length self.old.nodes.items + 1 }
+    {
+        let node = self.judged(alloc, board, mover)?;
+        let place = self.nodes.len().min(NOWHERE as usize) as u32;
+        self.nodes.push(node)?;
+        if let Some(kid) = self.kids.get_mut(number as usize) {
+            kid.node = place;
+        }
+        self.path.push(place)?;
+        Ok(())
+    }
+
+    // The kid to which a walk goes on from an open node, with its number. If all are won by the
+    // other player, the node is lost.
+    fn next(&mut self, place: u32) -> Option<(u32, Kid)>
+        ensures { length self.new.nodes.items ≡ length self.old.nodes.items }
+    {
+        if self.state_at(place) != State::Open {
+            return None;
+        }
+        let best = self.best(place);
+        if best.is_none()
+            && let Some(node) = self.nodes.get_mut(place as usize)
+        {
+            node.state = State::Lost;
+        }
+        best
+    }
+
+    // Back up the path.
+    fn up(&mut self)
+        ensures { length self.new.nodes.items ≡ length self.old.nodes.items }
+    {
+        let mut value = 0u64;
+        let mut is_lost = false;
+        let count = self.path.len();
+        'nodes: for step in (0..count).rev() {
+            let place = self.path.get(step).copied().unwrap_or(NOWHERE);
+            if let Some(node) = self.nodes.get_mut(place as usize) {
+                value = if step + 1 == count {
+                    node.value()
+                } else {
+                    node.take(value, is_lost)
+                };
+                is_lost = node.state == State::Lost;
+            }
+        }
+    }
+}
+
+// The board with the mover's stone on the cell, if it is empty.
+fn with_stone(board: &Board, mover: Colour, cell: Cell) -> Board {
+    let mut now = *board;
+    if now.empties().has(cell) {
+        now.place(mover, cell);
+    }
+    now
+}

@@ -1,0 +1,2 @@
+-- What the answers to the goals of decided_turn rest on.
+mod Searched

@@ -1,0 +1,39 @@
+-- The cells that are searched are empty.
+use Rattle.std.proofs.Common.{◌≡◌, ◌||◌, ◌==◌, not, ℕ, Bool, true, Option, None, Some, refl, sym, ap}
+use Rattle.std.proofs.Common.{◌∙◌, subst}
+use Rattle.std.specs.Prelude.{is_some}
+use Rattle.std.proofs.lemmas.Bool.{eqb-true}
+use Rattle.hex_cells.specs.Sets.{has, with_cell}
+use Rattle.hex_cells.proofs.Bits.{has_none}
+use Rattle.hex_cells.proofs.WithCell.{has_with_cell}
+use Rattle.hex_board.specs.Positions.{AllEmpty, Position, is_empty_at}
+use Rattle.look_ahead.specs.Looked.{LookedData}
+use Rattle.hex_plan.specs.Plans.{AllowsEmpties, IsSearchAmong}
+use Rattle.hex_plan.specs.Turns.{ChoseAmong, searched_cells}
+use Rattle.hex_plan.specs.declared.types.Plan.{Plan}
+use Rattle.hex_plan.specs.declared.types.Plan.TheVariants.{Win, Search}
+
+-- a set of one cell has no other
+in_one : (k j : ℕ) → has (with_cell 0 k) j ≡ true → j ≡ k
+in_one k j e = eqb-true j k
+    (sym (ap (λ (b : Bool). b || (j == k)) (has_none j)) ∙ (sym (has_with_cell 0 k j) ∙ e))
+
+chosen_empty : (board : Position) (allowed : ℕ) (looked : Option LookedData)
+    → AllEmpty board allowed → ChoseAmong allowed looked
+    → AllEmpty board (searched_cells allowed looked)
+chosen_empty board allowed None empty chosen = empty
+chosen_empty board allowed (Some l) empty chosen = λ k e.
+    subst (λ j. is_empty_at board j ≡ true) (sym (in_one l.cell k e))
+    (empty l.cell (chosen l refl))
+
+pub searched_empty : (board : Position) (plan : Plan) (allowed : ℕ) (looked : Option LookedData)
+    → AllowsEmpties board plan → IsSearchAmong plan allowed → ChoseAmong allowed looked
+    → AllEmpty board (searched_cells allowed looked)
+searched_empty board (Win cert cell) allowed looked h among chosen = absurd among
+searched_empty board (Search threats cells lost) allowed looked h among chosen
+    = chosen_empty board allowed looked (subst (AllEmpty board) among h.1) chosen
+
+-- nobody is joined on a board on which a turn may be made
+pub nobody : {C : Type 0} (o : Option C) → not (is_some o) ≡ true → o ≡ None
+nobody None e = refl
+nobody (Some c) e = absurd (cc)

@@ -1,0 +1,18 @@
+//! A law of the limits of certificates: each with its number, as docs/use/CERTIFICATES.md has it.
+//!
+//! Definitions name these constants, so a wrong number would make a wrong definition. So here the
+//! numbers stand bare on purpose: of a name the law would hold whatever its number.
+
+ghost use Rattle.std.specs.Prelude.{◌≡◌};
+
+use crate::certs::{FIRST_VERSION, LATEST_VERSION, MOST_LINES};
+use crate::lines::{LEAST_CASES, MOST_CASES, MOST_NUMBER};
+
+/// A law, with nothing to run: the two versions, how many lines stand before the claim, how many
+/// numbers `cases` has, and how far lines are numbered.
+pub fn limits_are_those_of_the_manual()
+    ensures versions { (FIRST_VERSION ≡ 1) × (LATEST_VERSION ≡ 2) }
+    ensures lines { MOST_LINES ≡ 200000 }
+    ensures cases { (LEAST_CASES ≡ 2) × (MOST_CASES ≡ 127) }
+    ensures number { MOST_NUMBER ≡ 999999 }
+{}
