@@ -5,7 +5,8 @@ const AT_WORK = 'hexd is at work: Stop ends it.';
 
 class Play {
   constructor() {
-    Object.assign(this, {busy: false, thinking: null, progress: null, running: false, stopping: false, waiting: []});
+    Object.assign(this, {busy: false, thinking: null, progress: null, running: false, waiting: []});
+    Object.assign(this, {opening: false, stopping: false});
     Object.assign(this, {lost: null, full: false, cuts: [], strengths: null, entered: false, isNew: false});
     this.view = new BoardView(byId('board'), {
       onPick: vertex => this.pick(vertex),
@@ -125,9 +126,10 @@ class Play {
   /** Ends what hexd does: its process goes, and another one takes the game over. */
   stop() {
     this.running = false;
-    if (!this.thinking) return;
+    if (!this.thinking || this.stopping) return;
     this.stopping = true;
-    this.game.session.close();
+    // A session that is being opened is ended once it is there.
+    if (!this.opening) this.game.session.close();
   }
 
   async renew() {
@@ -145,19 +147,21 @@ class Play {
   /** The options of hexd that are wanted now. */
   get options() { return this.strengths.options(strengthOf(), this.game.size); }
 
-  /** Opens a session of a hexd with the options that are wanted. */
-  async openSession() {
+  /** Opens a session of a hexd with the options that are wanted, once `old` is ended. */
+  async openSession(old = null) {
     const {options} = this;
-    this.game.renew(await Session.open(options), options);
+    this.opening = true;
+    await old?.close();
+    this.game.renew(await Session.open(options).finally(() => { this.opening = false; }), options);
+    if (!this.stopping) return;
+    await this.game.session.close();
+    throw new SessionLost('it was stopped');
   }
 
   /** Has hexd search with the options that are wanted: in another session, if the one that is there has others. */
   async searching(search) {
     const {game, options} = this;
-    if (optionText(game.options) !== optionText(options)) {
-      await game.session.close();
-      await this.openSession();
-    }
+    if (optionText(game.options) !== optionText(options)) await this.openSession(game.session);
     const before = game.took;
     await search();
     if (game.took !== before) this.pace?.took(game.took.milliseconds);

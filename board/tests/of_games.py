@@ -457,6 +457,29 @@ class Lasting(Pages):
             self.assertEqual(1, len(server.engines()))
             browser.driver.get("about:blank")
 
+    def test_stop_while_a_session_is_opened(self):
+        """The search isn't begun, and the process that came meanwhile goes."""
+        with Server() as server:
+            browser = self.start("8,a1,h8", players=("I", "I"), server=server)
+            browser.run('''
+                const held = new Promise(goOn => { window.goOn = goOn; }), {open} = Session;
+                Session.open = async options => {
+                  const session = await open(options);
+                  window.isOpen = true;
+                  await held;
+                  return session;
+                };''')
+            browser.choose("#strength", "strong")
+            browser.press("#hint")
+            until(lambda: browser.run("return window.isOpen === true"), "another session is there")
+            browser.press("#stop")
+            browser.run("window.goOn()")
+            browser.ready()
+            self.assertIn("look-ahead of 2,000 nodes", browser.text("#strength-words"))
+            self.assertNotIn("as the last search went", browser.text("#strength-words"))
+            self.assertEqual(1, len(server.engines()))
+            self.browser.faults()
+
     def halt(self, server):
         """What its processes are asked for then has no end, however late a busy browser is."""
         for pid in server.engines():
