@@ -7,7 +7,7 @@ use edge_reach::End;
 use hex_cells::{Cell, Colour, MOST_CELLS};
 use hex_scout::State;
 use std::alloc::{AllocError, Global};
-use win_cert::{Cert, End as CertEnd, LATEST_VERSION, Line, Lines, Numbers};
+use win_cert::{Cert, End as CertEnd, Line, Lines, Numbers, version_for};
 
 // The numbers of a scope's lines.
 #[derive(Drop)]
@@ -36,7 +36,7 @@ pub(crate) fn cert_of(
         push_block(alloc, draft, &layouts, block, &mut lines)?;
     }
     Ok(Cert {
-        version: LATEST_VERSION,
+        version: version_for(&lines),
         board: root.board,
         player,
         lines: Lines::of(lines),
