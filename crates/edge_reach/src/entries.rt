@@ -16,6 +16,8 @@ pub enum Cause {
     Or2(u32, u32),
     /// Three of them.
     Or3(u32, u32, u32),
+    /// Four or more: so many numbers from this place on in the list that the report keeps.
+    OrMany(usize, usize),
 }
 
 /// What becomes of an entry.
@@ -82,17 +84,17 @@ pub enum End {
     Second,
 }
 
-/// The premises of a cause.
+/// The premises of a cause that has at most three.
 #[derive(Clone, Copy, Debug, PartialEq, Eq)]
 pub(crate) struct Premises {
     pub numbers: [Option<u32>; 3],
 }
 
 impl Cause {
-    /// The numbers of its premises.
+    /// The numbers of its premises; none of four or more, which the report's list has.
     pub(crate) fn premises(self) -> Premises {
         let numbers = match self {
-            Cause::Adjacent => [None, None, None],
+            Cause::Adjacent | Cause::OrMany(_, _) => [None, None, None],
             Cause::And(i, j) => [Some(i), Some(j), None],
             Cause::Key(i, j) => [Some(i), Some(j), None],
             Cause::Or2(i, j) => [Some(i), Some(j), None],

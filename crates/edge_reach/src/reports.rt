@@ -7,7 +7,7 @@ use super::found::{Found, Limits};
 use super::walks::Walk;
 use conn_store::Kind;
 use hex_board::MOST_ELEMENTS;
-use hex_cells::{CellSet, Colour, Size};
+use hex_cells::{CellSet, Colour, MOST_CELLS, Size};
 use std::alloc::{AllocError, Global};
 
 /// What a report is about: a player with these stones on a board where the cells of the region are
@@ -48,6 +48,8 @@ pub struct Reach {
     ways: Vec<Vec<Way>>,
     // The semi entries of a pair that were taken.
     others: Vec<(CellSet, u32)>,
+    // Of these the ones that are united.
+    united: Vec<u32>,
     walk: Walk,
 }
 
@@ -64,6 +66,7 @@ impl Reach {
             found,
             ways,
             others: Vec::new(alloc),
+            united: Vec::new(alloc),
             walk: Walk::make(alloc),
         })
     }
@@ -83,9 +86,14 @@ impl Reach {
         self.found.entries().get(number as usize)
     }
 
+    /// The premises of a cause that has four or more; none of another.
+    pub fn many(&self, cause: Cause) -> &[u32] {
+        self.found.many(cause)
+    }
+
     /// The entries on which one rests, each behind those on which it rests, itself the last.
     pub fn derivation(&mut self, number: u32) -> Result<&[u32], AllocError> {
-        self.walk.walk(self.found.entries(), number)
+        self.walk.walk(&self.found, number)
     }
 
     /// How an element is named at the end of a connection.
@@ -208,9 +216,15 @@ impl Reach {
         Ok(())
     }
 
-    // The rule of OR: a semi entry with one or two others of its pair.
+    // The rule of OR: a semi entry with others of its pair.
     fn unite(&mut self, number: u32, entry: &Entry) -> Result<(), AllocError> {
         self.list_others(number, entry)?;
+        self.unite_few(number, entry)?;
+        self.unite_many(number, entry)
+    }
+
+    // The rule of OR with one or two others.
+    fn unite_few(&mut self, number: u32, entry: &Entry) -> Result<(), AllocError> {
         let (x, y) = (entry.x, entry.y);
         for place in 0..self.others.len() {
             let Some((carrier, second)) = self.others.get(place).copied() else {
@@ -235,6 +249,41 @@ impl Reach {
         Ok(())
     }
 
+    // The rule of OR with three or more others, once all have no cell in common: one entry, by
+    // greed.
+    fn unite_many(&mut self, number: u32, entry: &Entry) -> Result<(), AllocError> {
+        let mut common = entry.carrier;
+        for (carrier, _other) in &self.others {
+            common = common.meet(*carrier);
+        }
+        if !common.is_empty() {
+            return Ok(());
+        }
+        let carrier = self.gather(number, entry)?;
+        if self.united.len() < 4 {
+            return Ok(());
+        }
+        self.found
+            .add_united(entry.x, entry.y, carrier, &self.united)
+    }
+
+    // Gathers semi entries of the pair, this one first, until they have no cell in common: their
+    // carriers together.
+    fn gather(&mut self, number: u32, entry: &Entry) -> Result<CellSet, AllocError> {
+        self.united.clear();
+        self.united.push(number)?;
+        let (mut common, mut union) = (entry.carrier, entry.carrier);
+        for _other in 0..self.others.len() {
+            let Some((carrier, other)) = best_for(&self.others, common, union) else {
+                break;
+            };
+            common = common.meet(carrier);
+            union = union.union(carrier);
+            self.united.push(other)?;
+        }
+        Ok(union)
+    }
+
     // Lists the semi entries of the pair that were taken before.
     fn list_others(&mut self, number: u32, entry: &Entry) -> Result<(), AllocError> {
         self.others.clear();
@@ -251,4 +300,22 @@ impl Reach {
         }
         Ok(())
     }
+}
+
+// The entry that leaves the fewest cells in common, the first of several; a cell less weighs as much
+// as four that its carrier adds. `None` if none leaves fewer.
+fn best_for(others: &[(CellSet, u32)], common: CellSet, union: CellSet) -> Option<(CellSet, u32)> {
+    let mut best = None;
+    let mut most = 0;
+    for (carrier, other) in others {
+        let gain = common.minus(*carrier).count();
+        if 0 < gain {
+            let score = MOST_CELLS + 4 * gain - carrier.minus(union).count();
+            if most < score {
+                best = Some((*carrier, *other));
+                most = score;
+            }
+        }
+    }
+    best
 }

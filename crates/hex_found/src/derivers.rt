@@ -1,6 +1,6 @@
 //! Derivations of entries between the edges, by H-search.
 
-use super::pools::{Derivation, Derived, Pool, Step};
+use super::pools::{Derivation, Derived, Places, Pool, Step};
 use conn_store::Kind;
 use edge_reach::{Cause, Entry, Limits, Question, Reach, Until};
 use edge_tables::{EdgeEntry, Key, Origin};
@@ -193,6 +193,13 @@ fn step_of(reach: &Reach, entry: &Entry, places: &[usize]) -> Step {
         Cause::Key(i, j) => Step::Key(at(i), at(j)),
         Cause::Or2(i, j) => Step::Or2(at(i), at(j)),
         Cause::Or3(i, j, k) => Step::Or3(at(i), at(j), at(k)),
+        Cause::OrMany(_, _) => {
+            let mut numbers = Places::none();
+            for number in reach.many(entry.cause) {
+                numbers.put(*number);
+            }
+            Step::OrMany(numbers)
+        }
     };
     step.moved(places)
 }

@@ -7,7 +7,7 @@ use edge_reach::End;
 use hex_cells::{Cell, Colour, MOST_CELLS};
 use hex_scout::State;
 use std::alloc::{AllocError, Global};
-use win_cert::{Cert, End as CertEnd, LATEST_VERSION, Line, Lines, Numbers};
+use win_cert::{Cert, End as CertEnd, Line, Lines, Numbers, version_for};
 
 // The numbers of a scope's lines.
 #[derive(Drop)]
@@ -36,7 +36,7 @@ pub(crate) fn cert_of(
         push_block(alloc, draft, &layouts, block, &mut lines)?;
     }
     Ok(Cert {
-        version: LATEST_VERSION,
+        version: version_for(&lines),
         board: root.board,
         player,
         lines: Lines::of(lines),
@@ -125,7 +125,7 @@ fn push_block(
         if block.pool.is_chosen(place)
             && let Some(step) = block.pool.step(place)
         {
-            lines.push(line_of(layout, step))?;
+            lines.push(line_of(alloc, layout, step)?)?;
         }
     }
     for stone in block.moves.iter() {
@@ -145,9 +145,9 @@ fn push_block(
 }
 
 // A derived line.
-fn line_of(layout: &Layout, step: Step) -> Line {
+fn line_of(alloc: Global, layout: &Layout, step: Step) -> Result<Line, AllocError> {
     let at = |place: usize| layout.derived_number(place);
-    match step {
+    Ok(match step {
         // The edges lie side by side only where the player is joined, and no `adj` says that.
         Step::Adj(End::First, End::Second) => Line::Done,
         Step::Adj(x, y) => Line::Adj(end_of(x), end_of(y)),
@@ -155,7 +155,14 @@ fn line_of(layout: &Layout, step: Step) -> Line {
         Step::Key(i, j) => Line::Key(at(i), at(j)),
         Step::Or2(i, j) => Line::Or2(at(i), at(j)),
         Step::Or3(i, j, k) => Line::Or3(at(i), at(j), at(k)),
-    }
+        Step::OrMany(places) => {
+            let mut numbers = Vec::new(alloc);
+            for place in places.as_slice() {
+                numbers.push(at(*place as usize))?;
+            }
+            Line::OrMany(Numbers::of(numbers))
+        }
+    })
 }
 
 // An end in a certificate.
