@@ -55,7 +55,7 @@ fn read_and_written(rt: HostRuntime) -> Result<(), Fail> {
     assert_eq!(rt; raised.len(), V1.len());
     assert!(rt; raised.as_slice().starts_with(b"hexcert 2\n"));
     assert!(rt; raised.as_slice().ends_with(&V1[10..]));
-    assert_eq!(rt; LATEST_VERSION, 2);
+    assert_eq!(rt; LATEST_VERSION, 3);
     Ok(())
 }
 
@@ -76,7 +76,7 @@ fn refused_at_their_lines(rt: HostRuntime) -> Result<(), Fail> {
     let cases: [(&[u8], &[u8], Option<u32>); 18] = [
         (V1, b"\n", Some(16)),
         (V1, b"x", Some(16)),
-        (b"hexcert 3\n", b"", Some(1)),
+        (b"hexcert 4\n", b"", Some(1)),
         (b"hexcert 01\n", b"", Some(1)),
         (b"hexcert 1\nsize 12\n", b"", Some(2)),
         (b"hexcert 1\nsize 0\n", b"", Some(2)),

@@ -1,10 +1,11 @@
-//! `and`, `key` and `or`: lines over two or three entries of the scope.
+//! `and`, `key` and `or`: lines over entries of the scope.
 
-ghost use Rattle.std.specs.Prelude.{◌≡◌, ℕ, ◌<◌, ◌||◌, ◌∷◌, List};
+ghost use Rattle.std.specs.Prelude.{◌≡◌, ℕ, ◌<◌, ◌≤◌, ◌||◌, ◌∷◌, List, length};
 ghost use Rattle.hex_board.specs.Elements.{element_count};
 ghost use Rattle.win_cert.specs.Entries.{elements_at};
 ghost use Rattle.win_cert.specs.Statements.{is_cell_in};
 ghost use Rattle.win_cert.specs.declared.lines.Line.{Line};
+ghost use Rattle.win_cert.specs.declared.lines.TheConstants.{LEAST_MANY};
 ghost use Rattle.cert_check.specs.Keeping.{AreBothNamed, DerivesLine, IsOrOf, chain_line};
 
 use super::checkers::Checker;
@@ -89,7 +90,7 @@ impl Checker {
         }
     }
 
-    /// `or`: two or three semi entries of the same elements.
+    /// `or`: semi entries of the same elements.
     pub fn either(&self, first: u32, numbers: &[u32]) -> Result<Given, Reason>
         requires { (rest : List ℕ) × (numbers.now ≡ first ∷ rest) }
         ensures { (line : Line) → IsOrOf line numbers.now → DerivesLine self.now line result }
@@ -110,5 +111,13 @@ impl Checker {
             return Err(Reason::CommonCell);
         }
         Ok(self.between(Kind::Full, a.x, a.y, self.carriers(numbers)))
+    }
+
+    /// `or` of four or more.
+    pub fn either_of(&self, numbers: &[u32]) -> Result<Given, Reason>
+        requires { LEAST_MANY ≤ length numbers.now }
+        ensures { DerivesLine self.now (Line.OrMany numbers.now) result }
+    {
+        self.either(numbers[0], numbers)
     }
 }

@@ -27,6 +27,7 @@ impl Checker {
             Line::Key(i, j) => self.chain(*i, *j, true)?,
             Line::Or2(i, j) => self.either(*i, &[*i, *j])?,
             Line::Or3(i, j, k) => self.either(*i, &[*i, *j, *k])?,
+            Line::OrMany(numbers) => self.either_of(numbers.as_slice())?,
             Line::Put(cells) => {
                 self.put(*cells)?;
                 return Ok(None);

@@ -8,18 +8,18 @@ use Rattle.hex_board.specs.Wins.{Wins}
 use Rattle.conn_store.specs.declared.entries.Kind.{Kind}
 use Rattle.conn_store.specs.declared.entries.Kind.TheVariants.{Full, Semi}
 use Rattle.win_cert.specs.Verdicts.{Accepted}
+use Rattle.win_cert.specs.Versions.{version_for}
 use Rattle.win_cert.specs.Writable.{IsWritable}
 use Rattle.win_cert.specs.declared.certs.Cert.{Cert}
-use Rattle.win_cert.specs.declared.certs.TheConstants.{LATEST_VERSION}
 
 -- what is claimed for the winner: that he wins by moving first, or even with the other to move
 abbrev pub claim_for : Colour → Colour → Kind
 claim_for winner mover = if is_same winner mover then Semi else Full
 
--- the certificate has the latest version, can be written, is accepted, is of this board and player,
--- and claims that he wins
+-- the certificate has the version that its lines need, can be written, is accepted, is of this board
+-- and player, and claims that he wins
 pub record Certifies (p : Position) (mover winner : Colour) (cert : Cert) : Type 0 where
-  pub latest : cert.version ≡ LATEST_VERSION
+  pub version : cert.version ≡ version_for cert.lines
   pub writable : IsWritable cert
   pub accepted : Accepted cert
   pub board : cert.board ≡ p

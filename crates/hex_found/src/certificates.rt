@@ -1,8 +1,9 @@
 //! Certificates that are found, and checked.
 
-ghost use Rattle.std.specs.Prelude.{◌≡◌, IfOk, IfSome, IsTrue, None, Ok};
-ghost use Rattle.win_cert.specs.Writable.{IsEndOn, IsLineOf, IsWritable};
-ghost use Rattle.win_cert.specs.declared.certs.TheConstants.{LATEST_VERSION};
+ghost use Rattle.std.specs.Prelude.{◌≡◌, ◌≤◌, IfOk, IfSome, IsTrue, None, Ok, length};
+ghost use Rattle.win_cert.specs.Writable.{AreNumbers, IsEndOn, IsLineOf, IsWritable};
+ghost use Rattle.win_cert.specs.Versions.{version_for};
+ghost use Rattle.win_cert.specs.declared.lines.TheConstants.{MOST_CASES};
 ghost use Rattle.hex_found.specs.Found.{IsFound, claim_for};
 
 use super::refusals::Memory;
@@ -13,7 +14,8 @@ use hex_board::Board;
 use hex_cells::{CellSet, Colour, Size};
 use std::alloc::Global;
 use win_cert::{
-    Cert, End, LATEST_VERSION, LEAST_CASES, Line, MOST_CASES, MOST_LINES, MOST_NUMBER, Verdict,
+    Cert, End, LATEST_VERSION, LEAST_CASES, LEAST_MANY, Line, MOST_CASES, MOST_LINES, MOST_NUMBER,
+    SECOND_VERSION, Verdict, version_for,
 };
 
 /// A certificate of who wins the position, found by entering at most `budget` states. `None` if
@@ -68,38 +70,49 @@ pub fn certified(
     }
 }
 
-// Whether the certificate has the latest version and can be written.
+// Whether the certificate has the version that its lines need, and can be written.
 fn is_writable(cert: &Cert) -> bool
-    ensures latest { IsTrue result → cert.now.version ≡ LATEST_VERSION }
+    ensures version { IsTrue result → cert.now.version ≡ version_for cert.now.lines }
     ensures writable { IsTrue result → IsWritable cert.now }
 {
     let size = cert.board.size();
     let lines = cert.lines.as_slice();
-    cert.version == LATEST_VERSION
+    cert.version == version_for(lines)
         && cert.entry <= MOST_NUMBER
         && lines.len() <= MOST_LINES
-        && lines.iter().all(|line| is_line_on(line, size))
+        && lines.iter().all(|line| is_line_of(cert.version, line, size))
 }
 
-// Whether the line's cells lie on the board and its numbers are not too great.
-fn is_line_on(line: &Line, size: Size) -> bool
-    ensures { IsTrue result → IsLineOf LATEST_VERSION size line.now }
+// Whether the line is one of that version, its cells lie on the board, and its numbers are not too
+// many and not too great.
+fn is_line_of(version: u32, line: &Line, size: Size) -> bool
+    ensures { IsTrue result → IsLineOf version size line.now }
 {
+    let has_scopes = SECOND_VERSION <= version;
     let is_number = |number: u32| number <= MOST_NUMBER;
     match line {
         Line::Adj(x, y) => is_end_on(*x, size) && is_end_on(*y, size),
         Line::And(i, j) | Line::Key(i, j) | Line::Or2(i, j) => is_number(*i) && is_number(*j),
         Line::Or3(i, j, k) => is_number(*i) && is_number(*j) && is_number(*k),
-        Line::Put(cells) => cells.inside(CellSet::all(size)),
-        Line::Done => true,
-        Line::Move(cell, i) => cell.number() < size.cells() && is_number(*i),
-        Line::Cases(numbers) => {
-            let numbers = numbers.as_slice();
-            LEAST_CASES <= numbers.len()
-                && numbers.len() <= MOST_CASES
-                && numbers.iter().all(|number| *number <= MOST_NUMBER)
+        Line::OrMany(numbers) => {
+            version == LATEST_VERSION && are_numbers(numbers.as_slice(), LEAST_MANY)
         }
+        Line::Put(cells) => has_scopes && cells.inside(CellSet::all(size)),
+        Line::Done => has_scopes,
+        Line::Move(cell, i) => has_scopes && cell.number() < size.cells() && is_number(*i),
+        Line::Cases(numbers) => has_scopes && are_numbers(numbers.as_slice(), LEAST_CASES),
     }
+}
+
+// Whether these are `least` numbers or more, not too many, and none is too great.
+fn are_numbers(numbers: &[u32], least: usize) -> bool
+    ensures count { IsTrue result → least ≤ length numbers.now }
+    ensures few { IsTrue result → length numbers.now ≤ MOST_CASES }
+    ensures small { IsTrue result → AreNumbers numbers.now }
+{
+    least <= numbers.len()
+        && numbers.len() <= MOST_CASES
+        && numbers.iter().all(|number| *number <= MOST_NUMBER)
 }
 
 // Whether the end is an edge or a cell of the board.

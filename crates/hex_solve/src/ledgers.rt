@@ -11,7 +11,7 @@ use hex_board::Board;
 use hex_cells::Colour;
 use std::alloc::Global;
 use std::marker::Model;
-use win_cert::{Cert, LATEST_VERSION, Line, Lines, MOST_LINES};
+use win_cert::{Cert, Line, Lines, MOST_LINES, SECOND_VERSION};
 
 /// The lines of a player's certificate on a board. Lines for which a certificate has no room are
 /// counted.
@@ -103,7 +103,7 @@ impl Ledger {
     {
         if self.lost == 0 {
             Ok(Cert {
-                version: LATEST_VERSION,
+                version: SECOND_VERSION,
                 board: self.base,
                 player: self.player,
                 lines: Lines::of(self.lines),

@@ -16,7 +16,7 @@ use Rattle.win_cert.specs.declared.lines.End.{End}
 use Rattle.win_cert.specs.declared.lines.End.TheVariants.{At, First, Second}
 use Rattle.win_cert.specs.declared.lines.Line.{Line}
 use Rattle.win_cert.specs.declared.lines.Line.TheVariants.{Adj, And, Key, Or2, Or3, Put, Done, Move}
-use Rattle.win_cert.specs.declared.lines.Line.TheVariants.{Cases}
+use Rattle.win_cert.specs.declared.lines.Line.TheVariants.{Cases, OrMany}
 
 -- an entry of elements x and y on the board of a scope, the lesser first; where the player is
 -- joined there, an entry of his edges has element 0 twice
@@ -120,6 +120,7 @@ gives c (And i j) = and_entry c (entries_at c (i ∷ j ∷ []))
 gives c (Key i j) = key_entry c (entries_at c (i ∷ j ∷ []))
 gives c (Or2 i j) = or_entry c (entries_at c (i ∷ j ∷ []))
 gives c (Or3 i j k) = or_entry c (entries_at c (i ∷ j ∷ k ∷ []))
+gives c (OrMany numbers) = or_entry c (entries_at c numbers)
 gives c (Put cells) = None
 gives c Done = Some (edge_entry c Full 0)
 gives c (Move k i) = move_entry c k (entries_at c (i ∷ []))

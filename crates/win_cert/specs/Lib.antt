@@ -10,6 +10,7 @@ pub mod Entries
 pub mod Statements
 pub mod Reasons
 pub mod Verdicts
+pub mod Versions
 pub mod Contexts
 pub mod Cuts
 pub mod Cutting

@@ -11,15 +11,16 @@ use Rattle.conn_store.specs.declared.entries.Kind.{Kind}
 use Rattle.conn_store.specs.declared.entries.Kind.TheVariants.{Full, Semi}
 use Rattle.win_cert.specs.Texts.{kind_word, line_words}
 use Rattle.win_cert.specs.Writable.{IsLineOf}
-use Rattle.win_cert.specs.declared.certs.TheConstants.{LATEST_VERSION}
+use Rattle.win_cert.specs.declared.certs.TheConstants.{LATEST_VERSION, SECOND_VERSION}
 use Rattle.win_cert.specs.declared.keywords.Keyword.{Keyword}
 use Rattle.win_cert.specs.declared.keywords.Keyword.TheVariants as keyword
 use Rattle.win_cert.specs.declared.lines.End.{End}
 use Rattle.win_cert.specs.declared.lines.End.TheVariants.{At, First, Second}
 use Rattle.win_cert.specs.declared.lines.Line.{Line}
 use Rattle.win_cert.specs.declared.lines.Line.TheVariants.{Adj, And, Key, Or2, Or3, Put, Done, Move}
-use Rattle.win_cert.specs.declared.lines.Line.TheVariants.{Cases}
-use Rattle.win_cert.specs.declared.lines.TheConstants.{LEAST_CASES, MOST_CASES, MOST_NUMBER}
+use Rattle.win_cert.specs.declared.lines.Line.TheVariants.{Cases, OrMany}
+use Rattle.win_cert.specs.declared.lines.TheConstants.{LEAST_CASES, LEAST_MANY, MOST_CASES}
+use Rattle.win_cert.specs.declared.lines.TheConstants.{MOST_NUMBER}
 use Rattle.win_cert.specs.declared.statements.Statement.{Statement}
 use Rattle.win_cert.specs.declared.statements.Statement.TheVariants.{Claim, Derivation}
 
@@ -95,10 +96,10 @@ keyword_named word =
 
 -- whether lines with that keyword stand in certificates of the version
 abbrev pub is_in_version : ℕ → Keyword → Bool
-is_in_version version keyword.Put = version == LATEST_VERSION
-is_in_version version keyword.Done = version == LATEST_VERSION
-is_in_version version keyword.Move = version == LATEST_VERSION
-is_in_version version keyword.Cases = version == LATEST_VERSION
+is_in_version version keyword.Put = nat_le SECOND_VERSION version
+is_in_version version keyword.Done = nat_le SECOND_VERSION version
+is_in_version version keyword.Move = nat_le SECOND_VERSION version
+is_in_version version keyword.Cases = nat_le SECOND_VERSION version
 is_in_version version k = true
 
 -- what the words after each keyword say, on the board of size n
@@ -112,14 +113,14 @@ pair_in line words = option_and_then
     (λ i. option_and_then (λ j. alone (Derivation (line i.0 j.0)) j.1) (first_number i.1))
     (first_number words)
 
-abbrev pub or_after : ℕ → ℕ → List (List ℕ) → Option Statement
-or_after i j [] = Some (Derivation (Or2 i j))
-or_after i j (word ∷ words) = option_and_then
-    (λ k. alone (Derivation (Or3 i j k.0)) k.1) (first_number (word ∷ words))
+abbrev pub or_of : ℕ → List ℕ → Option Statement
+or_of version (i ∷ j ∷ []) = Some (Derivation (Or2 i j))
+or_of version (i ∷ j ∷ k ∷ []) = Some (Derivation (Or3 i j k))
+or_of version numbers = if version == LATEST_VERSION && nat_le LEAST_MANY (length numbers)
+    && nat_le (length numbers) MOST_CASES then Some (Derivation (OrMany numbers)) else None
 
-abbrev pub or_in : List (List ℕ) → Option Statement
-or_in words = option_and_then
-    (λ i. option_and_then (λ j. or_after i.0 j.0 j.1) (first_number i.1)) (first_number words)
+abbrev pub or_in : ℕ → List (List ℕ) → Option Statement
+or_in version words = option_and_then (or_of version) (numbers_named words)
 
 abbrev pub put_in : ℕ → List (List ℕ) → Option Statement
 put_in n words = option_map (λ s. Derivation (Put s)) (set_named n 0 0 words)
@@ -139,23 +140,24 @@ abbrev pub claim_in : Kind → List (List ℕ) → Option Statement
 claim_in kind words =
     option_and_then (λ i. alone (Claim kind i.0) i.1) (first_number words)
 
-abbrev pub args_named : ℕ → Keyword → List (List ℕ) → Option Statement
-args_named n keyword.Adj words = adj_in n words
-args_named n keyword.And words = pair_in And words
-args_named n keyword.Key words = pair_in Key words
-args_named n keyword.Or words = or_in words
-args_named n keyword.Put words = put_in n words
-args_named n keyword.Done words = alone (Derivation Done) words
-args_named n keyword.Move words = move_in n words
-args_named n keyword.Cases words = cases_in words
-args_named n keyword.Full words = claim_in Full words
-args_named n keyword.Semi words = claim_in Semi words
+abbrev pub args_named : ℕ → ℕ → Keyword → List (List ℕ) → Option Statement
+args_named version n keyword.Adj words = adj_in n words
+args_named version n keyword.And words = pair_in And words
+args_named version n keyword.Key words = pair_in Key words
+args_named version n keyword.Or words = or_in version words
+args_named version n keyword.Put words = put_in n words
+args_named version n keyword.Done words = alone (Derivation Done) words
+args_named version n keyword.Move words = move_in n words
+args_named version n keyword.Cases words = cases_in words
+args_named version n keyword.Full words = claim_in Full words
+args_named version n keyword.Semi words = claim_in Semi words
 
 -- what the words of a line say, in a certificate of that version on a board of that size
 abbrev pub statement_named : ℕ → ℕ → List (List ℕ) → Option Statement
 statement_named version n [] = None
 statement_named version n (word ∷ words) = option_and_then
-    (λ k. if is_in_version version k then args_named n k words else None) (keyword_named word)
+    (λ k. if is_in_version version k then args_named version n k words else None)
+    (keyword_named word)
 
 -- the words of a line that says this
 abbrev pub statement_words : ℕ → Statement → List (List ℕ)

@@ -17,7 +17,7 @@ use Rattle.win_cert.specs.Scopes.{elements_in}
 use Rattle.win_cert.specs.declared.lines.End.{End}
 use Rattle.win_cert.specs.declared.lines.End.TheVariants.{At, First, Second}
 use Rattle.win_cert.specs.declared.lines.Line.TheVariants.{Adj, And, Key, Or2, Or3, Put, Done, Move}
-use Rattle.win_cert.specs.declared.lines.Line.TheVariants.{Cases}
+use Rattle.win_cert.specs.declared.lines.Line.TheVariants.{Cases, OrMany}
 use Rattle.win_cert.specs.declared.statements.Statement.{Statement}
 use Rattle.win_cert.specs.declared.statements.Statement.TheVariants.{Claim, Derivation}
 
@@ -28,6 +28,7 @@ numbers_in (Derivation (And i j)) = i ∷ j ∷ []
 numbers_in (Derivation (Key i j)) = i ∷ j ∷ []
 numbers_in (Derivation (Or2 i j)) = i ∷ j ∷ []
 numbers_in (Derivation (Or3 i j k)) = i ∷ j ∷ k ∷ []
+numbers_in (Derivation (OrMany numbers)) = numbers
 numbers_in (Derivation (Put cells)) = []
 numbers_in (Derivation Done) = []
 numbers_in (Derivation (Move k i)) = i ∷ []
@@ -48,6 +49,7 @@ is_chain s = false
 abbrev pub is_or : Statement → Bool
 is_or (Derivation (Or2 i j)) = true
 is_or (Derivation (Or3 i j k)) = true
+is_or (Derivation (OrMany numbers)) = true
 is_or s = false
 
 -- whether it is a `cases`

@@ -13,7 +13,7 @@ use Rattle.win_cert.specs.declared.lines.End.{End}
 use Rattle.win_cert.specs.declared.lines.End.TheVariants.{At, First, Second}
 use Rattle.win_cert.specs.declared.lines.Line.{Line}
 use Rattle.win_cert.specs.declared.lines.Line.TheVariants.{Adj, And, Key, Or2, Or3, Put, Done, Move}
-use Rattle.win_cert.specs.declared.lines.Line.TheVariants.{Cases}
+use Rattle.win_cert.specs.declared.lines.Line.TheVariants.{Cases, OrMany}
 
 -- the byte between two words, and the byte that ends a line
 abbrev pub space : ℕ
@@ -39,6 +39,7 @@ line_words n (And i j) = codes "and" ∷ decimal i ∷ decimal j ∷ []
 line_words n (Key i j) = codes "key" ∷ decimal i ∷ decimal j ∷ []
 line_words n (Or2 i j) = codes "or" ∷ decimal i ∷ decimal j ∷ []
 line_words n (Or3 i j k) = codes "or" ∷ decimal i ∷ decimal j ∷ decimal k ∷ []
+line_words n (OrMany numbers) = codes "or" ∷ map decimal numbers
 line_words n (Put cells) = codes "put" ∷ vertices_of n cells
 line_words n Done = codes "done" ∷ []
 line_words n (Move k i) = codes "move" ∷ vertex_of n k ∷ decimal i ∷ []

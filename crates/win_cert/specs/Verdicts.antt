@@ -1,6 +1,6 @@
 -- Which certificates are accepted, and the verdict on one.
 use Rattle.std.specs.Prelude.{◌≡◌, ℕ, ◌<◌, ◌↔◌, List, [], ◌∷◌, ◌++◌, Option, Some, None, length}
-use Rattle.std.specs.Prelude.{map}
+use Rattle.std.specs.Prelude.{map, max}
 use Rattle.std.specs.List.{slice_get}
 use Rattle.std.specs.Option.{option_and_then}
 use Rattle.win_cert.specs.Entries.{ScopedEntry, context_at, entry_at}
@@ -8,7 +8,7 @@ use Rattle.win_cert.specs.Reasons.{reason_against}
 use Rattle.win_cert.specs.declared.statements.Statement.{Statement}
 use Rattle.win_cert.specs.declared.statements.Statement.TheVariants.{Claim, Derivation}
 use Rattle.win_cert.specs.declared.certs.Cert.{Cert}
-use Rattle.win_cert.specs.declared.certs.TheConstants.{LATEST_VERSION}
+use Rattle.win_cert.specs.declared.certs.TheConstants.{SECOND_VERSION}
 use Rattle.win_cert.specs.declared.reasons.Reason.{Reason}
 use Rattle.win_cert.specs.declared.verdicts.Verdict.{Verdict}
 use Rattle.win_cert.specs.declared.verdicts.Verdict.TheVariants.{Yes, No}
@@ -40,9 +40,9 @@ IsVerdict cert (Yes kind carrier) =
 IsVerdict cert (No k reason) =
     (reason_at cert k ≡ Some reason) × ((j : ℕ) → j < k → reason_at cert j ≡ None)
 
--- the certificate with the latest version, and all else as it was
+-- the certificate in version 2, if it is of version 1, and all else as it was
 abbrev pub raised : Cert → Cert
-raised cert = record cert { version = LATEST_VERSION }
+raised cert = record cert { version = max cert.version SECOND_VERSION }
 
 -- there are the same verdicts on the two certificates
 abbrev pub HaveSameVerdict : Cert → Cert → Type 0

@@ -2,13 +2,15 @@
 use Rattle.std.specs.Prelude.{◌≡◌, ℕ, ◌*◌, ◌<◌, ◌≤◌, ◌⊎◌, List, [], ◌∷◌, length, All}
 use Rattle.hex_board.specs.Positions.{IsPosition, Within}
 use Rattle.win_cert.specs.declared.certs.Cert.{Cert}
-use Rattle.win_cert.specs.declared.certs.TheConstants.{FIRST_VERSION, LATEST_VERSION, MOST_LINES}
+use Rattle.win_cert.specs.declared.certs.TheConstants.{FIRST_VERSION, SECOND_VERSION}
+use Rattle.win_cert.specs.declared.certs.TheConstants.{LATEST_VERSION, MOST_LINES}
 use Rattle.win_cert.specs.declared.lines.End.{End}
 use Rattle.win_cert.specs.declared.lines.End.TheVariants.{At, First, Second}
 use Rattle.win_cert.specs.declared.lines.Line.{Line}
 use Rattle.win_cert.specs.declared.lines.Line.TheVariants.{Adj, And, Key, Or2, Or3, Put, Done, Move}
-use Rattle.win_cert.specs.declared.lines.Line.TheVariants.{Cases}
-use Rattle.win_cert.specs.declared.lines.TheConstants.{LEAST_CASES, MOST_CASES, MOST_NUMBER}
+use Rattle.win_cert.specs.declared.lines.Line.TheVariants.{Cases, OrMany}
+use Rattle.win_cert.specs.declared.lines.TheConstants.{LEAST_CASES, LEAST_MANY, MOST_CASES}
+use Rattle.win_cert.specs.declared.lines.TheConstants.{MOST_NUMBER}
 
 -- each number has at most six digits
 abbrev pub AreNumbers : List ℕ → Type 0
@@ -20,6 +22,10 @@ IsEndOn n (At k) = k < n * n
 IsEndOn n First = Unit {0}
 IsEndOn n Second = Unit {0}
 
+-- scopes and cases are of this version: of each but the first
+abbrev pub HasScopes : ℕ → Type 0
+HasScopes version = SECOND_VERSION ≤ version
+
 -- the line is one of that version on the board of size n: its cells lie on the board, and its
 -- numbers are not too great
 abbrev pub IsLineOf : ℕ → ℕ → Line → Type 0
@@ -28,17 +34,24 @@ IsLineOf version n (And i j) = AreNumbers (i ∷ j ∷ [])
 IsLineOf version n (Key i j) = AreNumbers (i ∷ j ∷ [])
 IsLineOf version n (Or2 i j) = AreNumbers (i ∷ j ∷ [])
 IsLineOf version n (Or3 i j k) = AreNumbers (i ∷ j ∷ k ∷ [])
-IsLineOf version n (Put cells) = (version ≡ LATEST_VERSION) × Within n cells
-IsLineOf version n Done = version ≡ LATEST_VERSION
-IsLineOf version n (Move k i) =
-    (version ≡ LATEST_VERSION) × (k < n * n) × AreNumbers (i ∷ [])
-IsLineOf version n (Cases numbers) =
-    (version ≡ LATEST_VERSION) × (LEAST_CASES ≤ length numbers) × (length numbers ≤ MOST_CASES)
+IsLineOf version n (OrMany numbers) =
+    (version ≡ LATEST_VERSION) × (LEAST_MANY ≤ length numbers) × (length numbers ≤ MOST_CASES)
     × AreNumbers numbers
+IsLineOf version n (Put cells) = HasScopes version × Within n cells
+IsLineOf version n Done = HasScopes version
+IsLineOf version n (Move k i) = HasScopes version × (k < n * n) × AreNumbers (i ∷ [])
+IsLineOf version n (Cases numbers) =
+    HasScopes version × (LEAST_CASES ≤ length numbers) × (length numbers ≤ MOST_CASES)
+    × AreNumbers numbers
+
+-- there is this version
+abbrev pub IsVersion : ℕ → Type 0
+IsVersion version =
+    (version ≡ FIRST_VERSION) ⊎ (version ≡ SECOND_VERSION) ⊎ (version ≡ LATEST_VERSION)
 
 -- each part of the certificate can be spelled
 pub record HasSpelling (cert : Cert) : Type 0 where
-  pub version : (cert.version ≡ FIRST_VERSION) ⊎ (cert.version ≡ LATEST_VERSION)
+  pub version : IsVersion cert.version
   pub lines : All (IsLineOf cert.version cert.board.size) cert.lines
   pub entry : cert.entry ≤ MOST_NUMBER
 

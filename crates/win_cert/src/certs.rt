@@ -9,7 +9,10 @@ use hex_cells::Colour;
 pub const FIRST_VERSION: u32 = 1;
 
 /// The version with scopes and cases.
-pub const LATEST_VERSION: u32 = 2;
+pub const SECOND_VERSION: u32 = 2;
+
+/// The version in which `or` takes any number of entries.
+pub const LATEST_VERSION: u32 = 3;
 
 /// The most derivation lines of a certificate.
 pub const MOST_LINES: usize = 200_000;

@@ -3,7 +3,7 @@
 ghost use Rattle.std.specs.Prelude.{◌≡◌};
 ghost use Rattle.win_cert.specs.Named.{is_in_version, keyword_named};
 
-use super::LATEST_VERSION;
+use super::SECOND_VERSION;
 
 /// The first word of a line.
 #[derive(Clone, Copy)]
@@ -55,10 +55,10 @@ pub(crate) fn is_in_version(version: u32, keyword: Keyword) -> bool
     ensures { result ≡ is_in_version version keyword }
 {
     match keyword {
-        Keyword::Put => version == LATEST_VERSION,
-        Keyword::Done => version == LATEST_VERSION,
-        Keyword::Move => version == LATEST_VERSION,
-        Keyword::Cases => version == LATEST_VERSION,
+        Keyword::Put => SECOND_VERSION <= version,
+        Keyword::Done => SECOND_VERSION <= version,
+        Keyword::Move => SECOND_VERSION <= version,
+        Keyword::Cases => SECOND_VERSION <= version,
         _ => true,
     }
 }

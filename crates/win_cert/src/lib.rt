@@ -7,9 +7,9 @@
 //! a line or the claim applies ([`Reason`]). The *verdict* on it ([`Verdict`]) is yes, with the
 //! claim and the carrier of its entry, or the first line with a reason against it and that reason.
 //!
-//! **A caller** reads a text ([`read`]), writes one ([`write`]), raises a certificate to the latest
-//! version ([`raise`]) and cuts one from a report ([`cut`], of an entry that [`edge_numbers`]
-//! names), or the lines of one entry or several ([`lines_onto`]).
+//! **A caller** reads a text ([`read`]), writes one ([`write`]), raises a certificate to version 2
+//! ([`raise`]) and cuts one from a report ([`cut`], of an entry that [`edge_numbers`] names), or the
+//! lines of one entry or several ([`lines_onto`]). [`version_for`] is the version that lines need.
 //!
 //! **What is proved.** The text is a whole list of lines of words (specs/Texts.antt). `write` gives
 //! it. `read` answers the certificate whose text the bytes are, or exactly the first line that is
@@ -26,7 +26,8 @@
 //! the length of the text. What the derived texts of [`CertError`] are.
 //!
 //! **Limits.** [`MOST_LINES`] lines before the claim, numbers up to [`MOST_NUMBER`], and
-//! [`MOST_CASES`] cases in a line; [`limits_are_those_of_the_manual`] has them as numbers.
+//! [`MOST_CASES`] entries in an `or` or a `cases`; [`limits_are_those_of_the_manual`] has them as
+//! numbers.
 //!
 //! Source: the rules are those of `conn_store`; scopes and cases are this project's own.
 //!
@@ -70,16 +71,17 @@ mod spelling;
 mod statements;
 mod values;
 mod verdicts;
+mod versions;
 mod words;
 mod writing;
 
-pub use certs::{Cert, FIRST_VERSION, LATEST_VERSION, MOST_LINES};
+pub use certs::{Cert, FIRST_VERSION, LATEST_VERSION, MOST_LINES, SECOND_VERSION};
 pub use claims::claimed_move;
 pub use cutting::{cut, lines_onto};
 pub use edges::edge_numbers;
 pub use laws::{accepted_certificates_win, claimed_moves_win};
 pub use limits::limits_are_those_of_the_manual;
-pub use lines::{End, LEAST_CASES, Line, Lines, MOST_CASES, MOST_NUMBER};
+pub use lines::{End, LEAST_CASES, LEAST_MANY, Line, Lines, MOST_CASES, MOST_NUMBER};
 pub use lists::{Bytes, Numbers};
 pub use raising::raise;
 pub use reading::read;
@@ -89,4 +91,5 @@ pub use rule_lines::lines_are_rules;
 pub use spelling::written_text_is_read_back;
 pub use statements::Statement;
 pub use verdicts::Verdict;
+pub use versions::version_for;
 pub use writing::write;

@@ -5,14 +5,14 @@
 
 ghost use Rattle.std.specs.Prelude.{◌≡◌};
 
-use crate::certs::{FIRST_VERSION, LATEST_VERSION, MOST_LINES};
-use crate::lines::{LEAST_CASES, MOST_CASES, MOST_NUMBER};
+use crate::certs::{FIRST_VERSION, LATEST_VERSION, MOST_LINES, SECOND_VERSION};
+use crate::lines::{LEAST_CASES, LEAST_MANY, MOST_CASES, MOST_NUMBER};
 
-/// A law, with nothing to run: the two versions, how many lines stand before the claim, how many
-/// numbers `cases` has, and how far lines are numbered.
+/// A law, with nothing to run: the three versions, how many lines stand before the claim, how many
+/// numbers `cases` has and an `or` of many, and how far lines are numbered.
 pub fn limits_are_those_of_the_manual()
-    ensures versions { (FIRST_VERSION ≡ 1) × (LATEST_VERSION ≡ 2) }
+    ensures versions { (FIRST_VERSION ≡ 1) × (SECOND_VERSION ≡ 2) × (LATEST_VERSION ≡ 3) }
     ensures lines { MOST_LINES ≡ 200000 }
-    ensures cases { (LEAST_CASES ≡ 2) × (MOST_CASES ≡ 127) }
+    ensures cases { (LEAST_CASES ≡ 2) × (LEAST_MANY ≡ 4) × (MOST_CASES ≡ 127) }
     ensures number { MOST_NUMBER ≡ 999999 }
 {}

@@ -12,8 +12,11 @@ pub const MOST_NUMBER: u32 = 999_999;
 /// The fewest cases: a single one leaves out none of the opponent's replies.
 pub const LEAST_CASES: usize = 2;
 
-/// The most cases: more than a board has cells.
+/// The most cases, and the most entries of an `or`: more than a board has cells.
 pub const MOST_CASES: usize = 127;
+
+/// The fewest entries of an `or` that has no form of its own: two have one, and so have three.
+pub const LEAST_MANY: usize = 4;
 
 /// An end of a connection.
 #[derive(Clone, Copy, Debug, PartialEq, Eq, Drop)]
@@ -39,6 +42,9 @@ pub enum Line {
     Or2(u32, u32),
     /// Three semi entries of the same elements with no cell in all their carriers: a full entry.
     Or3(u32, u32, u32),
+    /// Four or more semi entries of the same elements with no cell in all their carriers: a full
+    /// entry.
+    OrMany(Numbers),
     /// Sets the scope of the lines after it to these cells. It gives nothing.
     Put(CellSet),
     /// The player is joined on the board of the scope: a full entry of his edges.

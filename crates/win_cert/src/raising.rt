@@ -1,14 +1,14 @@
-//! Certificates in the latest version.
+//! Certificates in the version with scopes and cases.
 
 ghost use Rattle.std.specs.Prelude.{◌≡◌, IfOk, OnOk};
 ghost use Rattle.win_cert.specs.Verdicts.{HaveSameVerdict, raised};
 ghost use Rattle.win_cert.specs.Writable.{IsWritable};
 
-use super::{Cert, LATEST_VERSION, Line, Lines, Memory, Numbers};
+use super::{Cert, Line, Lines, Memory, Numbers, SECOND_VERSION};
 use std::alloc::{AllocError, Global};
 
-/// The same certificate in the latest version. It can be written, and there are the same verdicts
-/// on it. It refuses only if memory runs out.
+/// The same certificate in version 2 if it is of version 1, and else in its own. It can be written,
+/// and there are the same verdicts on it. It refuses only if memory runs out.
 pub fn raise(alloc: Global, cert: &Cert) -> Result<Cert, Memory>
     requires { IsWritable cert.now }
     ensures raised { IfOk result (λ new. new ≡ raised cert.now) }
@@ -17,7 +17,7 @@ pub fn raise(alloc: Global, cert: &Cert) -> Result<Cert, Memory>
 {
     let lines = copies(alloc, cert.lines.as_slice())?;
     Ok(Cert {
-        version: LATEST_VERSION,
+        version: cert.version.max(SECOND_VERSION),
         board: cert.board,
         player: cert.player,
         lines: Lines::of(lines),
@@ -47,9 +47,17 @@ fn copied(alloc: Global, line: &Line) -> Result<Line, AllocError>
         Line::Key(i, j) => Ok(Line::Key(*i, *j)),
         Line::Or2(i, j) => Ok(Line::Or2(*i, *j)),
         Line::Or3(i, j, k) => Ok(Line::Or3(*i, *j, *k)),
+        Line::OrMany(numbers) => Ok(Line::OrMany(copy_of(alloc, numbers)?)),
         Line::Put(cells) => Ok(Line::Put(*cells)),
         Line::Done => Ok(Line::Done),
         Line::Move(cell, i) => Ok(Line::Move(*cell, *i)),
-        Line::Cases(numbers) => Ok(Line::Cases(Numbers::of(numbers.as_slice().to_vec(alloc)?))),
+        Line::Cases(numbers) => Ok(Line::Cases(copy_of(alloc, numbers)?)),
     }
+}
+
+// The same numbers.
+fn copy_of(alloc: Global, numbers: &Numbers) -> Result<Numbers, AllocError>
+    ensures { IfOk result (λ new. new ≡ numbers.now) }
+{
+    Ok(Numbers::of(numbers.as_slice().to_vec(alloc)?))
 }

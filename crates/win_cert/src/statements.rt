@@ -2,11 +2,11 @@
 
 ghost use Rattle.std.specs.Prelude.{◌≡◌, IfOk};
 ghost use Rattle.win_cert.specs.Named.{adj_in, alone, args_named, cases_in, claim_in, move_in};
-ghost use Rattle.win_cert.specs.Named.{or_in, pair_in, put_in, statement_named};
+ghost use Rattle.win_cert.specs.Named.{or_in, or_of, pair_in, put_in, statement_named};
 
 use super::keywords::{Keyword, is_in_version, keyword_of};
 use super::words::Words;
-use super::{LEAST_CASES, Line, MOST_CASES, Numbers};
+use super::{LATEST_VERSION, LEAST_CASES, LEAST_MANY, Line, MOST_CASES, Numbers};
 use conn_store::Kind;
 use hex_cells::Size;
 use std::alloc::{AllocError, Global};
@@ -36,7 +36,7 @@ pub(crate) fn read_statement(
         return Ok(None);
     };
     if is_in_version(version, keyword) {
-        read_args(alloc, words, keyword, size)
+        read_args(alloc, words, keyword, version, size)
     } else {
         Ok(None)
     }
@@ -47,15 +47,16 @@ fn read_args(
     alloc: Global,
     words: &mut Words<'_>,
     keyword: Keyword,
+    version: u32,
     size: Size,
 ) -> Result<Option<Statement>, AllocError>
-    ensures { IfOk result (λ step. step ≡ args_named size keyword words.old) }
+    ensures { IfOk result (λ step. step ≡ args_named version size keyword words.old) }
 {
     match keyword {
         Keyword::Adj => Ok(read_adj(words, size)),
         Keyword::And => Ok(read_and(words)),
         Keyword::Key => Ok(read_key(words)),
-        Keyword::Or => Ok(read_or(words)),
+        Keyword::Or => read_or(alloc, words, version),
         Keyword::Put => Ok(read_put(words, size)),
         Keyword::Done => Ok(read_done(words)),
         Keyword::Move => Ok(read_move(words, size)),
@@ -92,17 +93,34 @@ fn read_key(words: &mut Words<'_>) -> Option<Statement>
     Some(Statement::Derivation(Line::Key(i, j)))
 }
 
-fn read_or(words: &mut Words<'_>) -> Option<Statement>
-    ensures { result ≡ or_in words.old }
+fn read_or(
+    alloc: Global,
+    words: &mut Words<'_>,
+    version: u32,
+) -> Result<Option<Statement>, AllocError>
+    ensures { IfOk result (λ step. step ≡ or_in version words.old) }
 {
-    let i = words.number()?;
-    let j = words.number()?;
-    if words.are_done() {
-        return Some(Statement::Derivation(Line::Or2(i, j)));
+    let Some(numbers) = words.numbers(alloc)? else {
+        return Ok(None);
+    };
+    Ok(or_of(version, numbers))
+}
+
+// The `or` of these numbers.
+fn or_of(version: u32, numbers: Vec<u32>) -> Option<Statement>
+    ensures { result ≡ or_of version numbers.items }
+{
+    if numbers.len() == 2 {
+        return Some(Statement::Derivation(Line::Or2(numbers[0], numbers[1])));
     }
-    let k = words.number()?;
-    words.nothing()?;
-    Some(Statement::Derivation(Line::Or3(i, j, k)))
+    if numbers.len() == 3 {
+        return Some(Statement::Derivation(Line::Or3(numbers[0], numbers[1], numbers[2])));
+    }
+    if version == LATEST_VERSION && LEAST_MANY <= numbers.len() && numbers.len() <= MOST_CASES {
+        Some(Statement::Derivation(Line::OrMany(Numbers::of(numbers))))
+    } else {
+        None
+    }
 }
 
 fn read_put(words: &mut Words<'_>, size: Size) -> Option<Statement>

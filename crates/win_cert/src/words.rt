@@ -1,6 +1,6 @@
 //! The words of a line.
 
-ghost use Rattle.std.specs.Prelude.{◌≡◌, ◌≢◌, ◌↔◌, [], ◌∷◌, Some, None, IfOk, IsTrue, MatchOption};
+ghost use Rattle.std.specs.Prelude.{◌≡◌, ◌≢◌, [], ◌∷◌, Some, None, IfOk, MatchOption};
 ghost use Rattle.std.specs.Option.{option_map};
 ghost use Rattle.std.specs.List.{position, slice_split};
 ghost use Rattle.win_cert.specs.Named.{after_word, set_named, first_cell, first_end, first_number};
@@ -141,12 +141,5 @@ impl<'a> Words<'a> {
         ensures { MatchOption result (self.now ≢ []) (λ _. self.now ≡ []) }
     {
         if self.more { None } else { Some(()) }
-    }
-
-    /// Whether no word is left.
-    pub(crate) fn are_done(&self) -> bool
-        ensures { IsTrue result ↔ (self.now ≡ []) }
-    {
-        !self.more
     }
 }

@@ -81,6 +81,7 @@ fn push_line(alloc: Global, text: &mut Vec<u8>, line: &Line, size: Size) -> Resu
         Line::Key(i, j) => push_numbers(alloc, text, b"key", &[*i, *j]),
         Line::Or2(i, j) => push_numbers(alloc, text, b"or", &[*i, *j]),
         Line::Or3(i, j, k) => push_numbers(alloc, text, b"or", &[*i, *j, *k]),
+        Line::OrMany(numbers) => push_numbers(alloc, text, b"or", numbers.as_slice()),
         Line::Put(cells) => push_cells(text, b"put", *cells, size),
         Line::Done => text.extend_from_slice(b"done"),
         Line::Move(cell, i) => {
