@@ -3,6 +3,9 @@
 use conn_store::Kind;
 use hex_cells::CellSet;
 
+/// The most semi entries that together make a full one.
+pub const MOST_UNITED: usize = 8;
+
 /// The rule by which an entry follows, and the numbers of its premises.
 #[derive(Clone, Copy, Debug, PartialEq, Eq)]
 pub enum Cause {

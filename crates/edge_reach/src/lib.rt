@@ -26,6 +26,9 @@
 //!   place of wider ones, and by an end as soon as what it asks for is there.
 //! - Entries are taken in the order of their carriers' sizes: what is narrow makes more of others
 //!   needless.
+//! - Of semi entries that have no cell in common two and three are tried in each way, but of more
+//!   one choice alone, by greed: a third of the positions are left to enter, at about the same time
+//!   for each.
 //! - Elements are taken out of a circuit from the last one down, each by the star-mesh rule: an
 //!   element with wires a, b, .. of the sum G gives way to a wire of a·b/G between each two of its
 //!   neighbours. What is left in its row are the shares a/G, from which potentials follow upwards.
@@ -45,7 +48,7 @@ mod walks;
 
 pub use circuits::{Circuit, FLOW};
 pub use elements::{Cells, cells_of};
-pub use entries::{Cause, End, Entry};
+pub use entries::{Cause, End, Entry, MOST_UNITED};
 pub use found::Limits;
 pub use held::{MOST_FULL, MOST_SEMI};
 pub use reports::{Question, Reach, Until};

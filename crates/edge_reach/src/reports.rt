@@ -2,12 +2,12 @@
 
 use super::circuits::Circuit;
 use super::elements::Elements;
-use super::entries::{Cause, End, Entry};
+use super::entries::{Cause, End, Entry, MOST_UNITED};
 use super::found::{Found, Limits};
 use super::walks::Walk;
 use conn_store::Kind;
 use hex_board::MOST_ELEMENTS;
-use hex_cells::{CellSet, Colour, MOST_CELLS, Size};
+use hex_cells::{CellSet, Colour, Size};
 use std::alloc::{AllocError, Global};
 
 /// What a report is about: a player with these stones on a board where the cells of the region are
@@ -249,7 +249,7 @@ impl Reach {
         Ok(())
     }
 
-    // The rule of OR with three or more others, once all have no cell in common: one entry, by
+    // The rule of OR with three or more others, if all of them have no cell in common: one entry, by
     // greed.
     fn unite_many(&mut self, number: u32, entry: &Entry) -> Result<(), AllocError> {
         let mut common = entry.carrier;
@@ -259,29 +259,30 @@ impl Reach {
         if !common.is_empty() {
             return Ok(());
         }
-        let carrier = self.gather(number, entry)?;
-        if self.united.len() < 4 {
-            return Ok(());
+        if let Some(carrier) = self.gather(number, entry)?
+            && 3 < self.united.len()
+        {
+            self.found
+                .add_united(entry.x, entry.y, carrier, &self.united)?;
         }
-        self.found
-            .add_united(entry.x, entry.y, carrier, &self.united)
+        Ok(())
     }
 
     // Gathers semi entries of the pair, this one first, until they have no cell in common: their
-    // carriers together.
-    fn gather(&mut self, number: u32, entry: &Entry) -> Result<CellSet, AllocError> {
+    // carriers together. `None` if [`MOST_UNITED`] still have one.
+    fn gather(&mut self, number: u32, entry: &Entry) -> Result<Option<CellSet>, AllocError> {
         self.united.clear();
         self.united.push(number)?;
         let (mut common, mut union) = (entry.carrier, entry.carrier);
-        for _other in 0..self.others.len() {
-            let Some((carrier, other)) = best_for(&self.others, common, union) else {
+        for _other in 1..MOST_UNITED {
+            let Some((carrier, other)) = best_beside(&self.others, common, union) else {
                 break;
             };
             common = common.meet(carrier);
             union = union.union(carrier);
             self.united.push(other)?;
         }
-        Ok(union)
+        Ok(if common.is_empty() { Some(union) } else { None })
     }
 
     // Lists the semi entries of the pair that were taken before.
@@ -302,19 +303,21 @@ impl Reach {
     }
 }
 
-// The entry that leaves the fewest cells in common, the first of several; a cell less weighs as much
-// as four that its carrier adds. `None` if none leaves fewer.
-fn best_for(others: &[(CellSet, u32)], common: CellSet, union: CellSet) -> Option<(CellSet, u32)> {
+// Of the entries that leave fewer cells in common the one that takes away the most for each cell
+// that its carrier adds, these taken as two more. By trial.
+fn best_beside(
+    others: &[(CellSet, u32)],
+    common: CellSet,
+    union: CellSet,
+) -> Option<(CellSet, u32)> {
     let mut best = None;
-    let mut most = 0;
+    let (mut best_gain, mut best_price) = (0u32, 1u32);
     for (carrier, other) in others {
         let gain = common.minus(*carrier).count();
-        if 0 < gain {
-            let score = MOST_CELLS + 4 * gain - carrier.minus(union).count();
-            if most < score {
-                best = Some((*carrier, *other));
-                most = score;
-            }
+        let price = carrier.minus(union).count() + 2;
+        if best_gain.saturating_mul(price) < gain.saturating_mul(best_price) {
+            best = Some((*carrier, *other));
+            (best_gain, best_price) = (gain, price);
         }
     }
     best

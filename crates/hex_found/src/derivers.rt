@@ -191,15 +191,9 @@ fn step_of(reach: &Reach, entry: &Entry, places: &[usize]) -> Step {
         }
         Cause::And(i, j) => Step::And(at(i), at(j)),
         Cause::Key(i, j) => Step::Key(at(i), at(j)),
-        Cause::Or2(i, j) => Step::Or2(at(i), at(j)),
-        Cause::Or3(i, j, k) => Step::Or3(at(i), at(j), at(k)),
-        Cause::OrMany(_, _) => {
-            let mut numbers = Places::none();
-            for number in reach.many(entry.cause) {
-                numbers.put(*number);
-            }
-            Step::OrMany(numbers)
-        }
+        Cause::Or2(i, j) => Step::Or(Places::of(&[i, j])),
+        Cause::Or3(i, j, k) => Step::Or(Places::of(&[i, j, k])),
+        Cause::OrMany(_, _) => Step::Or(Places::of(reach.many(entry.cause))),
     };
     step.moved(places)
 }

@@ -153,16 +153,24 @@ fn line_of(alloc: Global, layout: &Layout, step: Step) -> Result<Line, AllocErro
         Step::Adj(x, y) => Line::Adj(end_of(x), end_of(y)),
         Step::And(i, j) => Line::And(at(i), at(j)),
         Step::Key(i, j) => Line::Key(at(i), at(j)),
-        Step::Or2(i, j) => Line::Or2(at(i), at(j)),
-        Step::Or3(i, j, k) => Line::Or3(at(i), at(j), at(k)),
-        Step::OrMany(places) => {
-            let mut numbers = Vec::new(alloc);
-            for place in places.as_slice() {
-                numbers.push(at(*place as usize))?;
-            }
-            Line::OrMany(Numbers::of(numbers))
-        }
+        Step::Or(places) => or_of(alloc, layout, places.as_slice())?,
     })
+}
+
+// An `or` of the lines at these places.
+fn or_of(alloc: Global, layout: &Layout, places: &[u32]) -> Result<Line, AllocError> {
+    let at = |place: u32| layout.derived_number(place as usize);
+    match places {
+        [i, j] => Ok(Line::Or2(at(*i), at(*j))),
+        [i, j, k] => Ok(Line::Or3(at(*i), at(*j), at(*k))),
+        _ => {
+            let mut numbers = Vec::new(alloc);
+            for place in places {
+                numbers.push(at(*place))?;
+            }
+            Ok(Line::OrMany(Numbers::of(numbers)))
+        }
+    }
 }
 
 // An end in a certificate.
