@@ -3,7 +3,7 @@ set -l modes htp check migrate audit sim bench solve
 complete -c hexd -f
 complete -c hexd -n "not __fish_seen_subcommand_from $modes" -a htp -d 'Play a session of the Hex Text Protocol'
 complete -c hexd -n "not __fish_seen_subcommand_from $modes" -a check -d 'Check a certificate'
-complete -c hexd -n "not __fish_seen_subcommand_from $modes" -a migrate -d 'Write a certificate in the latest version'
+complete -c hexd -n "not __fish_seen_subcommand_from $modes" -a migrate -d 'Write a certificate in version 2 if it is of version 1'
 complete -c hexd -n "not __fish_seen_subcommand_from $modes" -a audit -d 'Audit traces of trees'
 complete -c hexd -n "not __fish_seen_subcommand_from $modes" -a sim -d 'Search by workers that step in turn'
 complete -c hexd -n "not __fish_seen_subcommand_from $modes" -a bench -d 'Search a position of its own'

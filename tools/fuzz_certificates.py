@@ -6,7 +6,7 @@
 Both are handed the same bytes: each file of examples/certificates, each prefix of V1, the two long texts that
 docs/use/CERTIFICATES.md describes, and COUNT changed certificates (3,000 if it isn't said), which SEED (1) determines. A
 changed one is a file of examples/certificates, or a short certificate of openings/, after one to three changes: of a
-number, a vertex, a name, the head, the order of lines, or of any byte.
+number, a vertex, a name, the head, how many numbers an `or` has, the order of lines, or of any byte.
 
 It prints how often each answer came, with no line numbers; a text on which the two differ is kept in a file, which is
 named. It ends with 1 if there is one, or if some number of refusal never came among 1,000 changed ones or more.
@@ -26,6 +26,7 @@ from programs import ROOT, run
 SHORT = 1_000
 MANY = 1_000
 REASONS = range(1, 14)
+MOST_WAYS = 127
 NAMES = [["and", "key", "or", "cases"], ["put", "done"], ["full", "semi"], ["black", "white"]]
 ODD_BYTES = b"\x00\t\n\r 01a\xff"
 
@@ -87,13 +88,22 @@ def change_cells(draw, line, size):
     return " ".join([name, *sorted(cells, key=cell_order)])
 
 
+def change_ways(draw, line, lines):
+    """A line of numbers, with one less or with some more: at times with one more than there may be."""
+    name, *numbers = line.split(" ")
+    more = draw.choice([0, 1, 1, 2, 3, MOST_WAYS - len(numbers), MOST_WAYS + 1 - len(numbers)])
+    numbers += [draw.choice([*numbers, str(draw.randrange(len(lines)))]) for _ in range(more)]
+    return " ".join([name, *numbers]) if more else line.rpartition(" ")[0]
+
+
 def change(draw, text):
     """A text after one change."""
     lines = text.split("\n")
     at, other = draw.randrange(len(lines)), draw.randrange(len(lines))
     size = next((int(line[5:]) for line in lines if re.fullmatch("size [1-9]", line)), 3)
     stones = [k for k, line in enumerate(lines) if line.startswith(("put", "black", "white"))]
-    match draw.choice("wwwwwwwwccccppssssddiiimb"):
+    ways = [k for k, line in enumerate(lines) if line.startswith(("or ", "cases "))]
+    match draw.choice("wwwwwwwwwwccccppssssddiiimbvvnn"):
         case "w":
             lines[at] = change_word(draw, lines[at], lines, size)
         case "c" if stones:
@@ -101,6 +111,11 @@ def change(draw, text):
             lines[at] = change_cells(draw, lines[at], size)
         case "p" if len(lines) > 2:
             lines[2] = draw.choice(["player white", "player black"])
+        case "v":
+            lines[0] = "hexcert " + draw.choice("123333334")
+        case "n" if ways:
+            at = draw.choice(ways)
+            lines[at] = change_ways(draw, lines[at], lines)
         case "s":
             lines[at], lines[other] = lines[other], lines[at]
         case "d":

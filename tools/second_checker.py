@@ -14,6 +14,7 @@ MOST_LINES = 200_000
 NUMBER, CELL, END = " (0|[1-9][0-9]{0,5})", " [a-k][0-9]+", " ([a-k][0-9]+|edge[12])"
 FORMS = {"1": f"adj{END}{END}|(and|key|or){NUMBER}{NUMBER}|or{NUMBER}{NUMBER}{NUMBER}|(full|semi){NUMBER}"}
 FORMS["2"] = f"{FORMS['1']}|put({CELL})*|done|move{CELL}{NUMBER}|cases({NUMBER}){{2,127}}"
+FORMS["3"] = f"{FORMS['2']}|or({NUMBER}){{2,127}}"
 # What a line gives; the pair has its elements, each of them the set of its places.
 Entry = namedtuple("Entry", "kind pair carrier scope")
 
@@ -34,7 +35,7 @@ def read(data):
         if not found:
             raise Refusal(f"not a certificate at line {at}")
         return found
-    version, size = match(1, "hexcert (1|2)")[1], int(match(2, "size ([1-9]|10|11)")[1])
+    version, size = match(1, "hexcert (1|2|3)")[1], int(match(2, "size ([1-9]|10|11)")[1])
     player = match(3, "player (black|white)")[1]
     named = {"abcdefghijk"[k % size] + str(k // size + 1): k for k in range(size**2)}
     named |= {"edge1": size**2, "edge2": size**2 + 1}

@@ -88,7 +88,7 @@ class Reports(unittest.TestCase):
         for wrong, why in (
             (SEMI.replace(b"white b3", b"white b4"), "hexd check refuses it: no 4 2"),
             (SEMI[:100], "hexd check refuses it: not a certificate at line 10"),
-            (b"hexcert 3\n", "hexd check refuses it: not a certificate at line 1"),
+            (b"hexcert 4\n", "hexd check refuses it: not a certificate at line 1"),
         ):
             run = self.report(wrong.decode(), "wrong.cert")
             self.assertEqual((1, "", f"hexd-report: {self.folder / 'wrong.cert'}: {why}\n"), (run.returncode, run.stdout, run.stderr))

@@ -12,7 +12,8 @@ use hsearch::{Report, connect};
 use std::alloc::Global;
 use std::process::Abort;
 use std::rt::HostRuntime;
-use win_cert::{Cert, Verdict, cut, write};
+use std::test::Fail;
+use win_cert::{Cert, Reason, Verdict, cut, read, write};
 
 // The number of the first semi entry between the player's edges.
 fn edge_entry(report: &Report) -> Option<u32>
@@ -70,4 +71,40 @@ fn edge_entry_of_one_cell(rt: HostRuntime) {
     let text = b"hexcert 1\nsize 1\nplayer black\nblack\nwhite\n\
         adj edge1 a1\nadj edge2 a1\nkey 1 0\nsemi 2\n";
     certify(&rt, rt.alloc(), 1, text, CellSet::of_bits(0b1));
+}
+
+// V1 of size 2 in version 3, before and after its `or`.
+const FRONT: &[u8] = b"hexcert 3\nsize 2\nplayer black\nblack\nwhite\n\
+    adj a2 a1\nadj a1 edge1\nadj a2 b1\nadj b1 edge1\nkey 0 1\nkey 2 3\n";
+
+const BACK: &[u8] = b"adj a2 edge2\nkey 6 7\nsemi 8\n";
+
+// The verdict on a certificate's text; `None` if it is none, or memory runs out.
+fn verdict_on(alloc: Global, text: &[u8]) -> Option<Verdict> {
+    match read(alloc, text) {
+        Ok(cert) => check(alloc, &cert).ok(),
+        Err(_) => None,
+    }
+}
+
+#[test]
+fn ors_of_four(rt: HostRuntime) -> Result<(), Fail> {
+    let accepted = Verdict::Yes {
+        claim: Kind::Semi,
+        carrier: CellSet::of_bits(0b111),
+    };
+    let refused = |reason| Verdict::No { line: 6, reason };
+    let rows: [(&[u8], Verdict); 4] = [
+        (b"or 4 5 4 5\n", accepted),
+        (b"or 4 4 4 4\n", refused(Reason::CommonCell)),
+        (b"or 4 5 4 1\n", refused(Reason::BadReference)),
+        (b"or 4 5 4 6\n", refused(Reason::BadReference)),
+    ];
+    for (line, expected) in rows {
+        let mut text = FRONT.to_vec(rt.alloc())?;
+        text.extend_from_slice(line)?;
+        text.extend_from_slice(BACK)?;
+        assert_eq!(rt; verdict_on(rt.alloc(), &text), Some(expected));
+    }
+    Ok(())
 }

@@ -13,13 +13,23 @@ use std::rt::HostRuntime;
 use std::test::Fail;
 use win_cert::{MOST_LINES, Verdict, read};
 
-// That Black wins the empty board of size 2, in the latest version.
+// That Black wins the empty board of size 2, in the version that its lines need.
 const BLACK_WINS: &[u8] = b"hexcert 2\nsize 2\nplayer black\nblack\nwhite\n\
     adj a2 a1\nadj a1 edge1\nadj a2 b1\nadj b1 edge1\n\
     key 0 1\nkey 2 3\nor 4 5\nadj a2 edge2\nkey 6 7\nsemi 8\n";
 
 // The same in the first version.
 const FIRST_VERSION: &[u8] = b"hexcert 1\nsize 2\nplayer black\nblack\nwhite\n\
+    adj a2 a1\nadj a1 edge1\nadj a2 b1\nadj b1 edge1\n\
+    key 0 1\nkey 2 3\nor 4 5\nadj a2 edge2\nkey 6 7\nsemi 8\n";
+
+// The same in version 3, which it needs for an `or` of four.
+const OF_FOUR: &[u8] = b"hexcert 3\nsize 2\nplayer black\nblack\nwhite\n\
+    adj a2 a1\nadj a1 edge1\nadj a2 b1\nadj b1 edge1\n\
+    key 0 1\nkey 2 3\nor 4 5 4 5\nadj a2 edge2\nkey 6 7\nsemi 8\n";
+
+// The same in version 3, which it doesn't need.
+const NEEDLESS: &[u8] = b"hexcert 3\nsize 2\nplayer black\nblack\nwhite\n\
     adj a2 a1\nadj a1 edge1\nadj a2 b1\nadj b1 edge1\n\
     key 0 1\nkey 2 3\nor 4 5\nadj a2 edge2\nkey 6 7\nsemi 8\n";
 
@@ -89,6 +99,8 @@ fn certificates_are_compared(rt: HostRuntime) {
         (BLACK_WINS, 2, 1, Black, false),
         (BLACK_WINS, 3, 0, Black, false),
         (FIRST_VERSION, 2, 0, Black, false),
+        (OF_FOUR, 2, 0, Black, true),
+        (NEEDLESS, 2, 0, Black, false),
         (REFUSED, 2, 0, Black, false),
     ];
     for (text, size, stones, mover, expected) in rows {

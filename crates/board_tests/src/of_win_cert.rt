@@ -21,6 +21,14 @@ const V3: &[u8] = b"hexcert 2\nsize 2\nplayer black\nblack\nwhite\n\
     put a1 a2\ndone\nput b1 a2\ndone\nput a2\n\
     move a1 1\nmove b1 3\ncases 5 6\nput\nmove a2 7\nsemi 9\n";
 
+// V1 in version 3, with an `or` of four.
+const MANY: &[u8] = b"hexcert 3\nsize 2\nplayer black\nblack\nwhite\n\
+    adj a2 a1\nadj a1 edge1\nadj a2 b1\nadj b1 edge1\n\
+    key 0 1\nkey 2 3\nor 4 5 4 5\nadj a2 edge2\nkey 6 7\nsemi 8\n";
+
+// A head of version 3.
+const THIRD_HEAD: &[u8] = b"hexcert 3\nsize 2\nplayer black\nblack\nwhite\n";
+
 // The five lines of a head of version 2 with stones.
 const HEAD: &[u8] = b"hexcert 2\nsize 11\nplayer white\nblack a1 k11\nwhite b1 a2\n";
 
@@ -48,13 +56,14 @@ fn refused_at(alloc: Global, text: &[u8]) -> Option<u32> {
 
 #[test]
 fn read_and_written(rt: HostRuntime) -> Result<(), Fail> {
-    for text in [V1, V2, V3] {
+    for text in [V1, V2, V3, MANY] {
         assert_eq!(rt; rewritten(rt.alloc(), text, false)?.as_slice(), text);
     }
     let raised = rewritten(rt.alloc(), V1, true)?;
     assert_eq!(rt; raised.len(), V1.len());
     assert!(rt; raised.as_slice().starts_with(b"hexcert 2\n"));
     assert!(rt; raised.as_slice().ends_with(&V1[10..]));
+    assert_eq!(rt; rewritten(rt.alloc(), MANY, true)?.as_slice(), MANY);
     assert_eq!(rt; LATEST_VERSION, 3);
     Ok(())
 }
@@ -73,7 +82,7 @@ fn each_prefix_is_refused_after_its_lines(rt: HostRuntime) -> Result<(), Fail> {
 
 #[test]
 fn refused_at_their_lines(rt: HostRuntime) -> Result<(), Fail> {
-    let cases: [(&[u8], &[u8], Option<u32>); 18] = [
+    let cases: [(&[u8], &[u8], Option<u32>); 21] = [
         (V1, b"\n", Some(16)),
         (V1, b"x", Some(16)),
         (b"hexcert 4\n", b"", Some(1)),
@@ -100,6 +109,9 @@ fn refused_at_their_lines(rt: HostRuntime) -> Result<(), Fail> {
         (HEAD, b"put b1 a1\nfull 0\n", Some(6)),
         (HEAD, b"done\ncases 0\nfull 0\n", Some(7)),
         (HEAD, b"done \nfull 0\n", Some(6)),
+        (HEAD, b"or 0 1 2 3\nfull 0\n", Some(6)),
+        (THIRD_HEAD, b"done\nor 0 1 2 3\nfull 0\n", None),
+        (THIRD_HEAD, b"done\nor 0\nfull 0\n", Some(7)),
     ];
     for (head, rest, line) in cases {
         let mut text = head.to_vec(rt.alloc())?;
@@ -109,6 +121,20 @@ fn refused_at_their_lines(rt: HostRuntime) -> Result<(), Fail> {
     let mut text = b"hexcert 1".to_vec(rt.alloc())?;
     text.extend_from_slice(&V3[9..])?;
     assert_eq!(rt; refused_at(rt.alloc(), &text), Some(6));
+    Ok(())
+}
+
+#[test]
+fn as_many_ways_as_there_may_be(rt: HostRuntime) -> Result<(), Fail> {
+    for (more, line) in [(125, None), (126, Some(6))] {
+        let mut text = THIRD_HEAD.to_vec(rt.alloc())?;
+        text.extend_from_slice(b"or 0 1")?;
+        for _ in 0..more {
+            text.extend_from_slice(b" 2")?;
+        }
+        text.extend_from_slice(b"\nfull 0\n")?;
+        assert_eq!(rt; refused_at(rt.alloc(), &text), line);
+    }
     Ok(())
 }
 

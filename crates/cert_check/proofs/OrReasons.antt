@@ -18,8 +18,8 @@ use Rattle.win_cert.specs.declared.statements.Statement.{Statement}
 use Rattle.win_cert.specs.declared.statements.Statement.TheVariants.{Derivation}
 use Rattle.win_cert.specs.declared.lines.Line.{Line}
 use Rattle.win_cert.specs.declared.lines.Line.TheVariants.{Adj, And, Key, Or2, Or3, Put, Done, Move}
-use Rattle.win_cert.specs.declared.lines.Line.TheVariants.{Cases}
-use Rattle.win_cert.proofs.CutSteps.{two_reasons, three_reasons}
+use Rattle.win_cert.specs.declared.lines.Line.TheVariants.{Cases, OrMany}
+use Rattle.win_cert.proofs.CutSteps.{many_reasons, two_reasons, three_reasons}
 use Rattle.cert_check.specs.Keeping.{IsGivenOn, IsOrOf, TakesKind, entry_of}
 use Rattle.cert_check.specs.declared.given.Given.{Given}
 use Rattle.cert_check.proofs.ReasonLaws.{told}
@@ -37,6 +37,8 @@ pub or_reasons : (c : Context) (line : Line) (numbers : List ℕ) → IsOrOf lin
 or_reasons c (Or2 i j) numbers h = two_reasons c i j ∙ ap (or_reason c (Derivation (Or2 i j))) h.1
 or_reasons c (Or3 i j k) numbers h = three_reasons c i j k
     ∙ ap (or_reason c (Derivation (Or3 i j k))) h.1
+or_reasons c (OrMany ns) numbers h = many_reasons c ns
+    ∙ ap (or_reason c (Derivation (OrMany ns))) h.1
 or_reasons c (Adj x y) numbers h = absurd (false≢true h.0)
 or_reasons c (And i j) numbers h = absurd (false≢true h.0)
 or_reasons c (Key i j) numbers h = absurd (false≢true h.0)
@@ -49,6 +51,7 @@ pub or_takes : (line : Line) (numbers : List ℕ) → IsOrOf line numbers
     → TakesKind (Derivation line) Semi true
 or_takes (Or2 i j) numbers h = (refl, refl)
 or_takes (Or3 i j k) numbers h = (refl, refl)
+or_takes (OrMany ns) numbers h = (refl, refl)
 or_takes (Adj x y) numbers h = absurd (false≢true h.0)
 or_takes (And i j) numbers h = absurd (false≢true h.0)
 or_takes (Key i j) numbers h = absurd (false≢true h.0)
@@ -61,6 +64,7 @@ pub or_gives : (c : Context) (line : Line) (numbers : List ℕ) → IsOrOf line 
     → gives c line ≡ or_entry c (entries_at c numbers)
 or_gives c (Or2 i j) numbers h = ap (λ l. or_entry c (entries_at c l)) h.1
 or_gives c (Or3 i j k) numbers h = ap (λ l. or_entry c (entries_at c l)) h.1
+or_gives c (OrMany ns) numbers h = ap (λ l. or_entry c (entries_at c l)) h.1
 or_gives c (Adj x y) numbers h = absurd (false≢true h.0)
 or_gives c (And i j) numbers h = absurd (false≢true h.0)
 or_gives c (Key i j) numbers h = absurd (false≢true h.0)

@@ -23,8 +23,8 @@ abbrev pub IsRefusalText : List ℕ → List ℕ → Type 0
 IsRefusalText bytes text = (error : CertError) × (error ≢ Memory)
     × IsParsedAs bytes (Err error) × (text ≡ refusal_text error)
 
--- Mode migrate: the text is that of the certificate that the bytes are, in the latest version; or
--- they are none.
+-- Mode migrate: the text is that of the certificate that the bytes are, in version 2 if it is of
+-- version 1; or they are none.
 abbrev pub IsMigrateText : List ℕ → List ℕ → Bool → Type 0
 IsMigrateText bytes text true = (cert : Cert) × IsParsedAs bytes (Ok cert)
     × (text ≡ cert_text (raised cert))

@@ -14,12 +14,13 @@ use hex_devices::InputAnswer;
 use std::alloc::{AllocError, Global};
 use win_cert::{Cert, CertError, Verdict, raise, read, write};
 
-/// The answer of mode `migrate`: the certificate in the latest version, or why there is none.
+/// The answer of mode `migrate`: the certificate in version 2 if it is of version 1 and else as it
+/// was, or why there is none.
 pub fn migrate_certificate(alloc: Global, input: &[u8]) -> Result<InputAnswer, AllocError>
     ensures { IfOk result (λ a. IsMigrateText input.now a.text.items a.accepted) }
 {
     match read(alloc, input) {
-        Ok(cert) => in_latest_version(alloc, &cert),
+        Ok(cert) => in_second_version(alloc, &cert),
         Err(CertError::Memory) => Err(AllocError),
         Err(error) => refused(alloc, error),
     }
@@ -41,16 +42,16 @@ pub fn check_certificate(alloc: Global, input: &[u8]) -> Result<InputAnswer, All
     }
 }
 
-// The certificate in the latest version.
-fn in_latest_version(alloc: Global, cert: &Cert) -> Result<InputAnswer, AllocError>
+// The certificate, in version 2 if it is of version 1.
+fn in_second_version(alloc: Global, cert: &Cert) -> Result<InputAnswer, AllocError>
     requires { IsWritable cert.now }
     ensures text { IfOk result (λ a. a.text.items ≡ cert_text (raised cert.now)) }
     ensures accepted { IfOk result (λ a. a.accepted ≡ true) }
 {
-    let Ok(latest) = raise(alloc, cert) else {
+    let Ok(raised) = raise(alloc, cert) else {
         return Err(AllocError);
     };
-    let Ok(text) = write(alloc, &latest) else {
+    let Ok(text) = write(alloc, &raised) else {
         return Err(AllocError);
     };
     Ok(InputAnswer {

@@ -38,9 +38,9 @@ use std::thread::Threads;
 /// board of the size that the arguments say. The file store (*shelf*) has the files of `loadsgf`,
 /// and the archive takes the turn of each `genmove`. Modes `check`, `migrate`, `audit` and `solve`
 /// take the whole input and give one text for it. That is the verdict on a certificate, the
-/// certificate in its latest version, the verdict on traces of closed trees, or who wins the
-/// position of a record. Modes `sim` and `bench` read nothing: they decide the turn of one
-/// position, hand it to the archive, and give one text that says it.
+/// certificate in version 2 if it is of version 1 and else as it was, the verdict on traces of
+/// closed trees, or who wins the position of a record. Modes `sim` and `bench` read nothing: they
+/// decide the turn of one position, hand it to the archive, and give one text that says it.
 ///
 /// Searches run in threads of the devices' runtime, and their workers pass their gate; no clause
 /// speaks of these.

@@ -22,7 +22,7 @@ use std::thread::Threads;
 pub enum InputMode {
     /// It is checked as a certificate.
     Check,
-    /// It is written as a certificate of the latest version.
+    /// It is written as a certificate, of version 2 if it is of version 1.
     Migrate,
     /// It is audited as traces of closed trees.
     Audit,

@@ -16,8 +16,8 @@ use Rattle.win_cert.specs.declared.certs.Cert.{Cert}
 abbrev pub claim_for : Colour → Colour → Kind
 claim_for winner mover = if is_same winner mover then Semi else Full
 
--- the certificate has the version that its lines need, can be written, is accepted, is of this board
--- and player, and claims that he wins
+-- the certificate has the version that its lines need, can be written, is accepted, is of this
+-- board and player, and claims that he wins
 pub record Certifies (p : Position) (mover winner : Colour) (cert : Cert) : Type 0 where
   pub version : cert.version ≡ version_for cert.lines
   pub writable : IsWritable cert

@@ -4,8 +4,8 @@
 //! **Nouns.** A *draft* is a certificate that is being made. A *block* has its lines in one scope,
 //! that is with certain stones of the player's; a *need* is what a scope is to show, an entry of a
 //! kind inside a region. A *pool* has the lines that a block may take. A certificate is *found* if
-//! it has the latest version, is accepted, is of the board that was asked, and claims that its
-//! player wins with this mover.
+//! it has the version that its lines need, is accepted, is of the board that was asked, and claims
+//! that its player wins with this mover.
 //!
 //! **A caller** asks [`find`], and gets a certificate or nothing:
 //!

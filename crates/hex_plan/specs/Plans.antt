@@ -64,8 +64,9 @@ pub record IsCertifiedWin (board : Position) (player : Colour) (cert : Cert) (ce
   pub lines : HasLinesFor own edges.0 cert
   pub winning : IsWinningCell own entry entry.kind cell
 
--- the certificate was found: it has the latest version, is accepted, is of the board and the
--- player, claims that he wins by placing first, and does so by a `move`, whose cell is this one
+-- the certificate was found: it has the version that its lines need, is accepted, is of the board
+-- and the player, claims that he wins by placing first, and does so by a `move`, whose cell is this
+-- one
 pub record IsFoundWin (board : Position) (player : Colour) (cert : Cert) (cell : ℕ) : Type 0 where
   pub certifies : Certifies board player player cert
   pub moved : ClaimsMove cert cell
@@ -118,9 +119,9 @@ pub record IsNarrowed (board : Position) (player : Colour) (threats : List Threa
   pub are_threats : AreThreats other threats
   pub mustplay : IsMustplay board threats allowed lost
 
--- the certificate of the threat was found: it has the latest version, is accepted, is of the board
--- and the other player, and claims that he wins whoever places first; the carrier is that of the
--- claim
+-- the certificate of the threat was found: it has the version that its lines need, is accepted, is
+-- of the board and the other player, and claims that he wins whoever places first; the carrier is
+-- that of the claim
 pub record IsFoundThreat (board : Position) (player : Colour) (t : Threat) : Type 0 where
   pub certifies : Certifies board player (other_of player) t.cert
   pub verdict : IsVerdict t.cert (Yes Full t.carrier)

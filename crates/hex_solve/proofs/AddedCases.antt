@@ -9,7 +9,7 @@ use Rattle.hex_board.specs.Positions.{AllEmpty, Position, is_empty_at, placed}
 use Rattle.hex_board.proofs.Placed.{placed_empty}
 use Rattle.conn_store.specs.declared.entries.Kind.TheVariants.{Full, Semi}
 use Rattle.win_cert.specs.Writable.{AreNumbers, IsLineOf}
-use Rattle.win_cert.specs.declared.certs.TheConstants.{LATEST_VERSION}
+use Rattle.win_cert.specs.declared.certs.TheConstants.{SECOND_VERSION}
 use Rattle.win_cert.specs.declared.lines.Line.TheVariants.{Put, Cases}
 use Rattle.win_cert.specs.declared.lines.TheConstants.{MOST_NUMBER}
 use Rattle.hex_solve.specs.Ledgers.{AnswerAll, AreAnswers, IsAmong, IsLedger, LedgerData, read_of}
@@ -86,10 +86,10 @@ cases_two d p s j numbers v k q e a z =
 
 pub cases_form : (d : LedgerData) (p : Position) (j : ℕ) (numbers : List ℕ) → IsLedger d
     → is_empty_at p j ≡ true → length numbers ≤ 121 → AnswerAll d p numbers → d.lost ≡ 0
-    → IsLineOf LATEST_VERSION d.base.board.size (Cases numbers)
+    → IsLineOf SECOND_VERSION d.base.board.size (Cases numbers)
 cases_form d p j numbers v e l a z =
     let w = answering d p numbers a.0 v z a.1 in
     let two : 2 ≤ length numbers
     = two_at_least numbers w.carriers (read_of d) p (scope_of d.base p) w.ways
     (all_left d p numbers a w j e) w.first in
-    (refl, two, omega arith, w.small)
+    (omega arith, two, omega arith, w.small)

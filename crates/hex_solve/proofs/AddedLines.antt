@@ -17,7 +17,7 @@ use Rattle.win_cert.specs.Entries.{ScopedEntry, entry_at}
 use Rattle.win_cert.specs.Reasons.{reason_against}
 use Rattle.win_cert.specs.declared.statements.Statement.TheVariants.{Derivation}
 use Rattle.win_cert.specs.Writable.{IsLineOf}
-use Rattle.win_cert.specs.declared.certs.TheConstants.{LATEST_VERSION, MOST_LINES}
+use Rattle.win_cert.specs.declared.certs.TheConstants.{MOST_LINES, SECOND_VERSION}
 use Rattle.win_cert.specs.declared.lines.Line.{Line}
 use Rattle.win_cert.specs.declared.lines.Line.TheVariants.{Put, Done, Move}
 use Rattle.win_cert.specs.declared.lines.TheConstants.{MOST_NUMBER}
@@ -95,7 +95,7 @@ pub put_follows : (d : LedgerData) (p : Position) (s : ℕ) → Keeps d.base.boa
 put_follows d p s k q =
     let r = reached_there d p s k q in (
       put_right (read_of d) s r.fresh,
-      (refl, λ j h. subst (λ (b : PlayerBoard). j < b.board.size * b.board.size) (base_of d) (empty_on (read_of d).base.board j (r.fresh j h))),
+      (omega arith, λ j h. subst (λ (b : PlayerBoard). j < b.board.size * b.board.size) (base_of d) (empty_on (read_of d).base.board j (r.fresh j h))),
     )
 
 -- ---- joined
@@ -146,9 +146,9 @@ shown_below d p kind s i w h =
 
 pub move_form : (d : LedgerData) (p : Position) (k i : ℕ) → IsLedger d → Keeps d.base.board p
     → is_empty_at p k ≡ true → ShowsWin d (placed p d.base.player k) Full i → d.lost ≡ 0
-    → IsLineOf LATEST_VERSION d.base.board.size (Move k i)
+    → IsLineOf SECOND_VERSION d.base.board.size (Move k i)
 move_form d p k i w e h f z = (
-  refl,
+  omega arith,
   subst (λ n. k < n * n) e.size (empty_on p k h),
   All-cons (λ v. v ≤ MOST_NUMBER) i []
       (shown_below d (placed p d.base.player k) Full (scope_of d.base (placed p d.base.player k)) i w (f z)) (All-nil (λ v. v ≤ MOST_NUMBER)),

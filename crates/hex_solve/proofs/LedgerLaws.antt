@@ -5,7 +5,7 @@ use Rattle.std.proofs.Common.{append-nil, append_assoc}
 use Rattle.std.proofs.lemmas.Bool.{cases_lt, le-ltb, lt-ltb}
 use Rattle.std.proofs.lemmas.List.Elements.{All-push}
 use Rattle.win_cert.specs.Writable.{IsLineOf}
-use Rattle.win_cert.specs.declared.certs.TheConstants.{LATEST_VERSION, MOST_LINES}
+use Rattle.win_cert.specs.declared.certs.TheConstants.{MOST_LINES, SECOND_VERSION}
 use Rattle.win_cert.specs.declared.lines.Line.{Line}
 use Rattle.win_cert.proofs.CutDerivations.{longer}
 use Rattle.hex_solve.specs.Ledgers.{CountsBy, GrowsBy, IsLedger, LedgerData, MayStandNext, read_of}
@@ -128,7 +128,7 @@ pub ledger_more : (d : LedgerData) (line : Line) → IsLedger d → length d.lin
 ledger_more d line w l m = record {
   clear = clear_append (first_context d.base.board d.base.player) d.lines
       (line ∷ []) w.clear (m.0, tt);
-  form = All-push (IsLineOf LATEST_VERSION d.base.board.size) d.lines line w.form m.1;
+  form = All-push (IsLineOf SECOND_VERSION d.base.board.size) d.lines line w.form m.1;
   few = let e : length (d.lines ++ line ∷ []) ≡ length d.lines + 1 = longer d.lines line in
       omega arith;
   full = λ h. let e : length d.lines ≡ MOST_LINES = w.full h in absurd (omega arith);

@@ -13,9 +13,10 @@ use Rattle.hex_board.specs.Wins.{empty_count}
 use Rattle.conn_store.specs.declared.entries.Kind.{Kind}
 use Rattle.conn_store.specs.declared.entries.Kind.TheVariants.{Full, Semi}
 use Rattle.win_cert.specs.Scopes.{player_board}
+use Rattle.win_cert.specs.Versions.{version_for}
 use Rattle.win_cert.specs.Writable.{IsLineOf}
 use Rattle.win_cert.specs.declared.certs.Cert.{Cert}
-use Rattle.win_cert.specs.declared.certs.TheConstants.{LATEST_VERSION, MOST_LINES}
+use Rattle.win_cert.specs.declared.certs.TheConstants.{MOST_LINES, SECOND_VERSION}
 use Rattle.hex_solve.specs.Deciding.{lines_needed, need}
 use Rattle.hex_solve.specs.Ledgers.{IsLedger, LedgerData, ShowsWin, count_of, read_of}
 use Rattle.hex_found.specs.Found.{IsCertifiedWinner, claim_for}
@@ -24,6 +25,7 @@ use Rattle.hex_solve.specs.PlainSearch.{IsShownBy, tree_lines}
 use Rattle.win_cert.specs.Showing.{GivesEdges, Shows, scope_of}
 use Rattle.hex_solve.specs.PlainAnswer.{IsCertOf, IsToldBy, IsOverlong}
 use Rattle.win_cert.proofs.Accepting.{accepted}
+use Rattle.win_cert.proofs.VersionLines.{second_suffices}
 use Rattle.hex_solve.proofs.AddedLines.{shown_below}
 use Rattle.hex_solve.proofs.FirstWins.{first_wins}
 use Rattle.hex_solve.proofs.TreeLines.{tree_few}
@@ -41,7 +43,7 @@ no_scope base = let s = stones_of base.board base.player in
     (λ k. has_without_cells s s k ∙ (no_more (has s k) ∙ sym (has_none k)))
 
 pub certified : (d : LedgerData) (claim : Kind) (cert : Cert) → IsLedger d → d.lost ≡ 0
-    → ShowsWin d d.base.board claim cert.entry → cert.version ≡ LATEST_VERSION
+    → ShowsWin d d.base.board claim cert.entry → cert.version ≡ SECOND_VERSION
     → cert.board ≡ d.base.board
     → cert.player ≡ d.base.player → cert.claim ≡ claim → cert.lines ≡ d.lines
     → IsCertOf d claim cert
@@ -63,14 +65,14 @@ certified d claim cert w z f v b p k l =
     = subst (λ (x : Kind). GivesEdges (read_of e) x 0 shown.carrier cert.entry) (sym k)
     (subst (λ (x : LedgerData). GivesEdges (read_of x) claim 0 shown.carrier cert.entry) (sym is) gives) in
     record {
-      latest = v;
+      version = v;
       board = b;
       player = p;
       claims = k;
       lines = l;
       writable = (
         record {
-          version = inr v;
+          version = inr (inl v);
           lines = subst (λ n. All (IsLineOf n cert.board.size) cert.lines) (sym v) ledger.form;
           entry = shown_below d d.base.board claim
               (scope_of d.base d.base.board) cert.entry w shown;
@@ -91,6 +93,12 @@ too_many d x n l q w f m e =
 
 -- ---- what is told
 
+-- the lines of a ledger need version 2
+ledger_version : (d : LedgerData) {claim : Kind} (cert : Cert) → IsCertOf d claim cert
+    → version_for cert.lines ≡ SECOND_VERSION
+ledger_version d cert c = second_suffices cert.board.size cert.lines
+    (subst (λ n. All (IsLineOf n cert.board.size) cert.lines) c.version c.writable.0.lines)
+
 pub won_told : (p : Position) (mover : Colour) (claim : Kind) (line : ℕ) (d : LedgerData)
     (cert : Cert) (winner : Colour) → IsToldBy p mover claim line d → IsCertOf d claim cert
     → winner ≡ d.base.player
@@ -98,7 +106,7 @@ pub won_told : (p : Position) (mover : Colour) (claim : Kind) (line : ℕ) (d : 
 won_told p mover claim line d cert winner t c w = (
   record {
     certified = record {
-      latest = c.latest;
+      version = c.version ∙ sym (ledger_version d cert c);
       writable = c.writable;
       accepted = c.accepted;
       board = c.board ∙ t.board;

@@ -11,7 +11,7 @@ use Rattle.win_cert.specs.Entries.{Context}
 use Rattle.win_cert.specs.Reasons.{reason_against}
 use Rattle.win_cert.specs.declared.statements.Statement.TheVariants.{Derivation}
 use Rattle.win_cert.specs.Writable.{IsLineOf}
-use Rattle.win_cert.specs.declared.certs.TheConstants.{LATEST_VERSION, MOST_LINES}
+use Rattle.win_cert.specs.declared.certs.TheConstants.{MOST_LINES, SECOND_VERSION}
 use Rattle.win_cert.specs.declared.lines.Line.{Line}
 use Rattle.win_cert.specs.Contexts.{AreClear, after_lines, first_context}
 use Rattle.win_cert.specs.Showing.{Shows, scope_of}
@@ -30,7 +30,7 @@ read_of d = after_lines (first_context d.base.board d.base.player) d.lines
 -- the room is taken
 pub record IsLedger (d : LedgerData) : Type 0 where
   pub clear : AreClear (first_context d.base.board d.base.player) d.lines
-  pub form : All (IsLineOf LATEST_VERSION d.base.board.size) d.lines
+  pub form : All (IsLineOf SECOND_VERSION d.base.board.size) d.lines
   pub few : length d.lines ≤ MOST_LINES
   pub full : 0 < d.lost → length d.lines ≡ MOST_LINES
   pub small : d.lost < 2 ^ 64
@@ -48,7 +48,7 @@ with_one_line d line =
 -- the line may stand after the others
 abbrev pub MayStandNext : LedgerData → Line → Type 0
 MayStandNext d line = (reason_against (read_of d) (Derivation line) ≡ None)
-    × IsLineOf LATEST_VERSION d.base.board.size line
+    × IsLineOf SECOND_VERSION d.base.board.size line
 
 -- new is old with more lines, at most so many
 pub record GrowsBy (most : ℕ) (old new : LedgerData) : Type 0 where

@@ -9,7 +9,7 @@ use Rattle.conn_store.specs.declared.entries.Kind.{Kind}
 use Rattle.win_cert.specs.Verdicts.{Accepted}
 use Rattle.win_cert.specs.Writable.{IsWritable}
 use Rattle.win_cert.specs.declared.certs.Cert.{Cert}
-use Rattle.win_cert.specs.declared.certs.TheConstants.{LATEST_VERSION, MOST_LINES}
+use Rattle.win_cert.specs.declared.certs.TheConstants.{MOST_LINES, SECOND_VERSION}
 use Rattle.hex_solve.specs.Deciding.{first, lines_needed, need}
 use Rattle.hex_solve.specs.Ledgers.{LedgerData, ShowsWin, count_of}
 use Rattle.hex_solve.specs.PlainSearch.{tree_lines}
@@ -18,10 +18,9 @@ use Rattle.hex_solve.specs.Solved.{IsOpenBoard, few_cells}
 use Rattle.hex_solve.specs.declared.answers.Solved.{Solved}
 use Rattle.hex_solve.specs.declared.answers.Solved.TheVariants.{Won, Unknown, TooLong, Open}
 
--- the certificate is one of the ledger's lines, has the latest version, is accepted and can be
--- written
+-- the certificate is one of the ledger's lines, has version 2, is accepted and can be written
 pub record IsCertOf (d : LedgerData) (claim : Kind) (cert : Cert) : Type 0 where
-  pub latest : cert.version ≡ LATEST_VERSION
+  pub version : cert.version ≡ SECOND_VERSION
   pub board : cert.board ≡ d.base.board
   pub player : cert.player ≡ d.base.player
   pub claims : cert.claim ≡ claim

@@ -14,7 +14,8 @@
 //! ```
 //!
 //! **What is proved.** A winner wins, whether his certificate fits or not. The certificate of one
-//! who has won has the latest version, can be written, is accepted, and is of this board, for him.
+//! who has won has the version that its lines need, can be written, is accepted, and is of this
+//! board, for him.
 //! It is unknown who wins only if the budget is below need, and need is at most bound
 //! ([`need_is_bounded`]). A certificate is too long only if more than nine cells are empty. How
 //! many lines it has is told: those of the winner, at most two for each of need positions

@@ -29,10 +29,10 @@ use win_cert::{Cert, accepted_certificates_win, cut, edge_numbers, raise};
 /// cells in rising order, up to the first that wins. It enters at most `budget` positions, each as
 /// often as a list of moves leads to it.
 ///
-/// It answers the winner with a certificate of the latest version, or with the number of lines if
-/// the certificate of the search without connections has too many. Or it answers that the budget is
-/// spent, or a full board on which nobody is joined, if there is one. It refuses only if memory
-/// runs out.
+/// It answers the winner with a certificate of the version that its lines need, or with the number
+/// of lines if the certificate of the search without connections has too many. Or it answers that
+/// the budget is spent, or a full board on which nobody is joined, if there is one. It refuses only
+/// if memory runs out.
 pub fn solve(
     alloc: Global,
     board: &Board,

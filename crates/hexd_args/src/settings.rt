@@ -10,7 +10,7 @@ pub enum Mode {
     Htp,
     /// It checks a certificate. Its word is `check`.
     Check,
-    /// It writes a certificate in the latest version. Its word is `migrate`.
+    /// It writes a certificate in version 2 if it is of version 1. Its word is `migrate`.
     Migrate,
     /// It audits traces of closed trees. Its word is `audit`.
     Audit,

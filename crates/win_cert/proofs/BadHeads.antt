@@ -1,5 +1,5 @@
 -- The lines before the one that is refused are good.
-use Rattle.std.proofs.Common.{◌≡◌, ◌≢◌, ◌⊎◌, ℕ, ◌+◌, ◌-◌, ◌≤◌, suc, inl, inr, List, [], ◌∷◌, ◌++◌}
+use Rattle.std.proofs.Common.{◌≡◌, ◌≢◌, ℕ, ◌+◌, ◌-◌, ◌≤◌, suc, inl, inr, List, [], ◌∷◌, ◌++◌}
 use Rattle.std.proofs.Common.{length, take, Option, Some, Ok, Err, refl, ap, sym, ◌∙◌, subst, codes}
 use Rattle.std.proofs.Common.{arith}
 use Rattle.std.specs.Fmt.{decimal}
@@ -13,7 +13,7 @@ use Rattle.win_cert.specs.Lines.{Steps, at_line, cert_in, cert_of, certs_of, hea
 use Rattle.win_cert.specs.Lines.{lines_of, player_in, size_in, steps_in, stones_in, version_in}
 use Rattle.win_cert.specs.Readings.{HasGoodLines}
 use Rattle.win_cert.specs.Texts.{cert_words, colour_word}
-use Rattle.win_cert.specs.Writable.{HasBoard, HasSpelling}
+use Rattle.win_cert.specs.Writable.{HasBoard, HasSpelling, IsVersion}
 use Rattle.win_cert.specs.declared.certs.Cert.{Cert}
 use Rattle.win_cert.specs.declared.certs.TheConstants.{FIRST_VERSION, LATEST_VERSION}
 use Rattle.win_cert.specs.declared.heads.Head.{Head}
@@ -21,7 +21,7 @@ use Rattle.win_cert.specs.declared.refusals.CertError.TheVariants.{NotCert}
 use Rattle.win_cert.proofs.BadLines.{bad_means, cut_at, step_lines}
 use Rattle.win_cert.proofs.CellLists.{none_within}
 use Rattle.win_cert.proofs.HeadMeans.{IsHead, TextLines, at_line_ok, bind_ok, same_ok, head_lines}
-use Rattle.win_cert.proofs.HeadMeans.{head_means, line_means, number_after_means, one_or_two}
+use Rattle.win_cert.proofs.HeadMeans.{head_means, is_version, line_means, number_after_means}
 use Rattle.win_cert.proofs.HeadMeans.{player_means, stones_mean}
 use Rattle.win_cert.proofs.LineParts.{lines_some}
 use Rattle.win_cert.proofs.Options.{some_of_map}
@@ -35,8 +35,8 @@ abbrev pub start_of : ℕ → ℕ → ℕ → Colour → Head
 start_of v n b p
     = record { version = v; board = record { size = n; black = b; white = 0 }; player = p }
 
-pub start_good : (v n b : ℕ) (p : Colour) → ((v ≡ FIRST_VERSION) ⊎ (v ≡ LATEST_VERSION)) → 1 ≤ n
-    → n ≤ 11 → Within n b → IsHead (start_of v n b p)
+pub start_good : (v n b : ℕ) (p : Colour) → IsVersion v → 1 ≤ n → n ≤ 11
+    → Within n b → IsHead (start_of v n b p)
 start_good v n b p version least most on = record {
   version = version;
   board = record { least = least; most = most; apart = λ k a z. let none = has_none k in cc; black_on = on; white_on = none_within n };
@@ -93,7 +93,7 @@ bad_head lines m some e = elim (none_or 1 m (line_in version_in lines) (λ v. ta
       let v_line = line_means version_in lines v.0 v.1 in
       let version = number_after_means
       (codes "hexcert") FIRST_VERSION LATEST_VERSION v_line.words v.0.0 v_line.says in
-      let v_good = one_or_two v.0.0 version.low version.high in
+      let v_good = is_version v.0.0 version.low version.high in
       let v_is : lines ≡ (codes "hexcert" ∷ decimal v.0.0 ∷ []) ∷ v.0.1 = v_line.is
       ∙ ap (λ w. w ∷ v.0.1) version.is in
       elim (none_or 2 m (line_in size_in v.0.1) (λ n. tail3 v.0.0 n.0 n.1) v.2) [

@@ -40,7 +40,7 @@ use Rattle.win_cert.specs.declared.statements.Statement.{Statement}
 use Rattle.win_cert.specs.declared.statements.Statement.TheVariants.{Derivation}
 use Rattle.win_cert.specs.declared.lines.End.{End}
 use Rattle.win_cert.specs.declared.lines.Line.{Line}
-use Rattle.win_cert.specs.declared.lines.Line.TheVariants.{Adj, And, Key, Or2, Or3}
+use Rattle.win_cert.specs.declared.lines.Line.TheVariants.{Adj, And, Key, Or2, Or3, OrMany}
 use Rattle.win_cert.proofs.CutChains.{ends_are, group_none, middle_is, missed, none_shared}
 use Rattle.win_cert.proofs.CutChains.{other_is, two_at, three_at}
 use Rattle.win_cert.proofs.LinksOn.{cell_is}
@@ -297,7 +297,13 @@ pub three_reasons : (c : Context) (i j k : ℕ)
 unfolding reason_against
 three_reasons c i j k = refl
 
-or_clear : (p q r s : Bool) → p ≡ false → q ≡ false → r ≡ false → s ≡ false
+pub many_reasons : (c : Context) (numbers : List ℕ)
+    → reason_against c (Derivation (OrMany numbers)) ≡ or_reason c (Derivation (OrMany numbers))
+    numbers
+unfolding reason_against
+many_reasons c numbers = refl
+
+pub or_clear : (p q r s : Bool) → p ≡ false → q ≡ false → r ≡ false → s ≡ false
     → told p BadReference (told q WrongScope (told r EndsDiffer (told s CommonCell None))) ≡ None
 or_clear p q r s a b c d
     = told_next p BadReference _ a

@@ -1,6 +1,6 @@
 -- What the head of a text says is in its words.
-use Rattle.std.proofs.Common.{◌≡◌, ℕ, ◌≤◌, ◌⊎◌, ◌&&◌, leb, eqb, bit_and, inl, inr, Bool, true}
-use Rattle.std.proofs.Common.{false, cond, List, [], ◌∷◌, ◌++◌, Option, Some, None, Result, Ok, Err}
+use Rattle.std.proofs.Common.{◌≡◌, ◌≢◌, ℕ, ◌≤◌, ◌⊎◌, ◌&&◌, leb, eqb, bit_and, inl, inr, Bool}
+use Rattle.std.proofs.Common.{true, false, cond, List, [], ◌∷◌, ◌++◌, Option, Some, None, Result, Ok, Err}
 use Rattle.std.proofs.Common.{refl, ap, ◌∙◌, subst, codes, arith}
 use Rattle.std.specs.Fmt.{decimal}
 use Rattle.std.specs.Option.{option_and_then, option_map}
@@ -15,7 +15,9 @@ use Rattle.win_cert.specs.Lines.{◌>>=◌, at_line, first_colour, first_line, h
 use Rattle.win_cert.specs.Lines.{number_after, player_in, size_in, stones_in, version_in}
 use Rattle.win_cert.specs.Named.{after_word, alone, set_named, first_number}
 use Rattle.win_cert.specs.Texts.{colour_word, vertices_of}
+use Rattle.win_cert.specs.Writable.{IsVersion}
 use Rattle.win_cert.specs.declared.certs.TheConstants.{FIRST_VERSION, LATEST_VERSION}
+use Rattle.win_cert.specs.declared.certs.TheConstants.{SECOND_VERSION}
 use Rattle.win_cert.specs.declared.heads.Head.{Head}
 use Rattle.win_cert.specs.declared.refusals.CertError.{CertError}
 use Rattle.win_cert.proofs.CellLists.{apart_of}
@@ -159,13 +161,22 @@ head_lines head =
     ∷ (codes "white" ∷ vertices_of head.board.size head.board.white) ∷ []
 
 pub record IsHead (head : Head) : Type 0 where
-  pub version : (head.version ≡ FIRST_VERSION) ⊎ (head.version ≡ LATEST_VERSION)
+  pub version : IsVersion head.version
   pub board : IsPosition head.board.size head.board.black head.board.white
 
-pub one_or_two : (v : ℕ) → FIRST_VERSION ≤ v → v ≤ LATEST_VERSION
-    → (v ≡ FIRST_VERSION) ⊎ (v ≡ LATEST_VERSION)
-one_or_two v low high
-    = elim (cases_eq v FIRST_VERSION) [ inl same ↦ inl same | inr other ↦ inr (omega (arith, other)) ]
+second_or_third : (v : ℕ) → FIRST_VERSION ≤ v → v ≤ LATEST_VERSION → v ≢ FIRST_VERSION
+    → (v ≡ SECOND_VERSION) ⊎ (v ≡ LATEST_VERSION)
+second_or_third v low high more = elim (cases_eq v SECOND_VERSION) [
+  | inl same ↦ inl same
+  | inr other ↦ inr (omega (arith, low, high, more, other))
+]
+
+-- between the first and the latest each number is a version
+pub is_version : (v : ℕ) → FIRST_VERSION ≤ v → v ≤ LATEST_VERSION → IsVersion v
+is_version v low high = elim (cases_eq v FIRST_VERSION) [
+  | inl same ↦ inl same
+  | inr other ↦ inr (second_or_third v low high other)
+]
 
 -- a head that is read is good, and the lines are its own
 pub head_means : (lines : TextLines) (p : Head × TextLines) → head_in lines ≡ Ok p
@@ -194,7 +205,7 @@ head_means lines p e =
     = record { version = v.0.0; board = record { size = n.0.0; black = b.0.0; white = w.0.0 }; player = c.0.0 } in
     let is : ◌≡◌ {A = Head × TextLines} (head, w.0.1) p = same_ok (head, w.0.1) p w.2 in
     let good : IsHead head = record {
-      version = one_or_two v.0.0 version.low version.high;
+      version = is_version v.0.0 version.low version.high;
       board = record {
         least = size.low;
         most = size.high;

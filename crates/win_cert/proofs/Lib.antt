@@ -10,7 +10,7 @@
 -- 4. proofs/GivenEntries and AcceptedLaw: all lines, and the claim.
 -- 5. That a line has no reason against it exactly if its rule of connection applies
 --    (src/rule_lines.rt, specs/RuleLines.antt): proofs/RuleLines, by CutSteps one way and
---    NamedEntries and Middles the other.
+--    NamedEntries and Middles the other; ManyLines for an `or` of any number.
 --
 -- How to read the proof of `win_cert::read`, `written_text_is_read_back`: the text of a
 -- certificate.
@@ -49,7 +49,8 @@
 --    the board: specs/Showing.antt, Reaching (positions and scopes), ScopeLines (`put`, `done`,
 --    `move` and `cases`: no reason against them, and what they give), Shown (two lines each: a
 --    `put` with one of the other three), CutShown (a `put` with the lines of a cut), ScopedWins
---    (such an entry, if it is true, tells who wins).
+--    (such an entry, if it is true, tells who wins), VersionLines (lines of version 2 need none
+--    later).
 
 -- Laws for the layers above.
 pub mod GivenEntries
@@ -69,6 +70,7 @@ pub mod Shown
 pub mod ScopedWins
 pub mod Accepting
 pub mod CutShown
+pub mod VersionLines
 -- Steps of this crate's own proofs.
 mod Vectors
 mod SameTests
@@ -115,4 +117,5 @@ mod Moved
 mod MovedRules
 mod CutsIn
 mod RuleLines
+mod ManyLines
 mod CutCertificates

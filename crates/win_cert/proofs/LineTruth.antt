@@ -22,7 +22,7 @@ use Rattle.win_cert.specs.Statements.{are_near, have_same_ends, is_edge_entry, n
 use Rattle.win_cert.specs.declared.statements.Statement.TheVariants.{Derivation}
 use Rattle.win_cert.specs.declared.lines.Line.{Line}
 use Rattle.win_cert.specs.declared.lines.Line.TheVariants.{Adj, And, Key, Or2, Or3, Put, Done, Move}
-use Rattle.win_cert.specs.declared.lines.Line.TheVariants.{Cases}
+use Rattle.win_cert.specs.declared.lines.Line.TheVariants.{Cases, OrMany}
 use Rattle.win_cert.proofs.CaseLines.{cases_good, edges_good, or_good}
 use Rattle.win_cert.proofs.ChainLines.{and_good, given_is, key_good}
 use Rattle.win_cert.proofs.EdgeEntries.{IsGoodOfEdges, good_done, good_move}
@@ -96,6 +96,10 @@ line_good c (Or3 i j k) r h m e
     = or_good c (Derivation (Or3 i j k)) (entries_at c (i ∷ j ∷ k ∷ [])) r refl refl m
     (named c (Or3 i j k) h) (h.clear CommonCell)
     (not-false (have_same_ends (entries_at c (i ∷ j ∷ k ∷ []))) (h.clear EndsDiffer)) e
+line_good c (OrMany numbers) r h m e
+    = or_good c (Derivation (OrMany numbers)) (entries_at c numbers) r refl refl m
+    (named c (OrMany numbers) h) (h.clear CommonCell)
+    (not-false (have_same_ends (entries_at c numbers)) (h.clear EndsDiffer)) e
 line_good c (Put cells) r h m e = absurd (cc)
 line_good c Done r h m e
     = edge_good c 0 r

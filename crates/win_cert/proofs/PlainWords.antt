@@ -1,5 +1,5 @@
 -- The words of a certificate have neither spaces nor line feeds.
-use Rattle.std.proofs.Common.{◌≡◌, ◌⊎◌, inl, inr, ℕ, ◌+◌, ◌*◌, ◌/◌, ◌%◌, ◌^◌, ◌<◌, ◌≤◌, zero, suc}
+use Rattle.std.proofs.Common.{◌≡◌, inl, inr, ℕ, ◌+◌, ◌*◌, ◌/◌, ◌%◌, ◌^◌, ◌<◌, ◌≤◌, zero, suc}
 use Rattle.std.proofs.Common.{Bool, true, false, cond, List, [], ◌∷◌, ◌++◌, map, refl, codes, arith}
 use Rattle.std.specs.Fmt.{decimal}
 use Rattle.std.specs.List.{All, filter, range_with_len}
@@ -17,13 +17,13 @@ use Rattle.conn_store.specs.declared.entries.Kind.TheVariants.{Full, Semi}
 use Rattle.win_cert.specs.Texts.{cert_words, colour_word, end_word, kind_word, line_words}
 use Rattle.win_cert.specs.Texts.{vertices_of}
 use Rattle.win_cert.specs.Words.{is_line_feed, is_space_byte}
-use Rattle.win_cert.specs.Writable.{HasBoard, HasSpelling, IsEndOn, IsLineOf}
+use Rattle.win_cert.specs.Writable.{HasBoard, HasSpelling, IsEndOn, IsLineOf, IsVersion}
 use Rattle.win_cert.specs.declared.certs.Cert.{Cert}
 use Rattle.win_cert.specs.declared.lines.End.{End}
 use Rattle.win_cert.specs.declared.lines.End.TheVariants.{At, First, Second}
 use Rattle.win_cert.specs.declared.lines.Line.{Line}
 use Rattle.win_cert.specs.declared.lines.Line.TheVariants.{Adj, And, Key, Or2, Or3, Put, Done, Move}
-use Rattle.win_cert.specs.declared.lines.Line.TheVariants.{Cases}
+use Rattle.win_cert.specs.declared.lines.Line.TheVariants.{Cases, OrMany}
 use Rattle.win_cert.specs.declared.lines.TheConstants.{MOST_NUMBER}
 use Rattle.win_cert.proofs.TextLines.{AreLines, ArePlain, IsLine, Plain}
 use Rattle.win_cert.proofs.WordParts.{row_small}
@@ -109,6 +109,8 @@ plain_line v n (Key i j) size is = (plain_code (codes "key") refl, plain_numbers
 plain_line v n (Or2 i j) size is = (plain_code (codes "or") refl, plain_numbers (i ∷ j ∷ []) is)
 plain_line v n (Or3 i j k) size is
     = (plain_code (codes "or") refl, plain_numbers (i ∷ j ∷ k ∷ []) is)
+plain_line v n (OrMany numbers) size is
+    = (plain_code (codes "or") refl, plain_numbers numbers is.3)
 plain_line v n (Put s) size is = (plain_code (codes "put") refl, plain_vertices n s size)
 plain_line v n Done size is = (plain_code (codes "done") refl, tt)
 plain_line v n (Move k i) size is
@@ -133,9 +135,10 @@ plain_steps v n [] claim size good end = (end, tt)
 plain_steps v n (line ∷ lines) claim size good end =
     (plain_line v n line size (good 0 line (omega arith)), plain_steps v n lines claim size (All-tail (IsLineOf v n) line lines good) end)
 
-version_small : (v : ℕ) → ((v ≡ 1) ⊎ (v ≡ 2)) → v < 2 ^ 64
+version_small : (v : ℕ) → IsVersion v → v < 2 ^ 64
 version_small v (inl e) = omega (arith, e)
-version_small v (inr e) = omega (arith, e)
+version_small v (inr (inl e)) = omega (arith, e)
+version_small v (inr (inr e)) = omega (arith, e)
 
 -- the lines of a certificate are words without spaces and line feeds
 pub plain_cert : (cert : Cert) → HasBoard cert → HasSpelling cert → AreLines (cert_words cert)

@@ -1,5 +1,5 @@
 -- The text of a certificate is read as the certificate.
-use Rattle.std.proofs.Common.{◌≡◌, ◌≢◌, ◌⊎◌, ℕ, ◌+◌, ◌≤◌, ◌&&◌, leb, eqb, suc, bit_and, inl, inr}
+use Rattle.std.proofs.Common.{◌≡◌, ◌≢◌, ℕ, ◌+◌, ◌≤◌, ◌&&◌, leb, eqb, suc, bit_and, inl, inr}
 use Rattle.std.proofs.Common.{Bool, true, false, cond, List, [], ◌∷◌, ◌++◌, length, map, Option}
 use Rattle.std.proofs.Common.{Some, None, Result, Ok, Err, refl, ap, sym, ◌∙◌, codes, arith}
 use Rattle.std.specs.Fmt.{decimal}
@@ -21,7 +21,7 @@ use Rattle.win_cert.specs.Lines.{stones_in, version_in, with_lines}
 use Rattle.win_cert.specs.Named.{alone, set_named, first_number, statement_named}
 use Rattle.win_cert.specs.Texts.{cert_text, cert_words, claim_words, colour_word, kind_word}
 use Rattle.win_cert.specs.Texts.{line_words, vertices_of}
-use Rattle.win_cert.specs.Writable.{HasBoard, IsLineOf, IsWritable}
+use Rattle.win_cert.specs.Writable.{HasBoard, IsLineOf, IsVersion, IsWritable}
 use Rattle.win_cert.specs.declared.certs.Cert.{Cert}
 use Rattle.win_cert.specs.declared.certs.TheConstants.{FIRST_VERSION, LATEST_VERSION, MOST_LINES}
 use Rattle.win_cert.specs.declared.heads.Head.{Head}
@@ -85,10 +85,10 @@ stones_back name n taken s size on apart =
     ∙ ap (λ b. cond b (Some s) None)
     ((Decides-eqb (bit_and s taken) 0).1 (none_common s taken apart))
 
-pub version_low : (v : ℕ) → ((v ≡ FIRST_VERSION) ⊎ (v ≡ LATEST_VERSION))
-    → (FIRST_VERSION ≤ v) × (v ≤ LATEST_VERSION)
+pub version_low : (v : ℕ) → IsVersion v → (FIRST_VERSION ≤ v) × (v ≤ LATEST_VERSION)
 version_low v (inl e) = (omega (arith, e), omega (arith, e))
-version_low v (inr e) = (omega (arith, e), omega (arith, e))
+version_low v (inr (inl e)) = (omega (arith, e), omega (arith, e))
+version_low v (inr (inr e)) = (omega (arith, e), omega (arith, e))
 
 pub then_back : {A B : Type 0} (m : ℕ) (o : Option A) (a : A) (f : A → Result B CertError)
     → o ≡ Some a → (at_line m o >>= f) ≡ f a

@@ -57,7 +57,7 @@ three_there : (c : Context) (i j k : ℕ) (a b d : Entry)
     × (entry_at c k ≡ Some (scoped c.scope d))
 three_there c i j k a b d h = (cc, cc, cc)
 
-taken_kind : (s : Statement) (a : Entry) (scope : ℕ) (o : Option ScopedEntry)
+pub taken_kind : (s : Statement) (a : Entry) (scope : ℕ) (o : Option ScopedEntry)
     → o ≡ Some (scoped scope a) → may_take s o ≡ true → a.kind ≡ kind_taken s
 taken_kind s a scope o e h =
     kinds_are a.kind (kind_taken s)
@@ -139,7 +139,7 @@ chain_of a b s u l m h =
 -- ---- carriers
 
 -- of entries with cells of a board, no cell is in all carriers
-none_in_all : (entries : List ScopedEntry)
+pub none_in_all : (entries : List ScopedEntry)
     → ((k : ℕ) → list_all (λ (v : ScopedEntry). has v.carrier k) entries ≡ true → k < 121)
     → share_cell entries ≡ false
     → (k : ℕ) → list_all (λ (v : ScopedEntry). has v.carrier k) entries ≡ false
@@ -148,7 +148,7 @@ none_in_all entries l f k
     (λ t. both_ways (share_cell entries) f
     (any_in (λ j. list_all (λ (v : ScopedEntry). has v.carrier j) entries) 0 121 k (omega arith) (omega (arith, l k t)) t))
 
-cell_small : (c : Context) (a : Entry) → c.base.board.size ≤ 11 → IsValid (elements_at c) a
+pub cell_small : (c : Context) (a : Entry) → c.base.board.size ≤ 11 → IsValid (elements_at c) a
     → (k : ℕ) → has a.carrier k ≡ true → k < 121
 cell_small c a m v k h
     = empty_small (elements_at c) a.carrier (scope_small c.base c.scope m) v.empty k h
@@ -276,7 +276,7 @@ key_clear c i j a b n (x, u, y, k, r, g) =
 
 -- ---- `or`
 
-same_pair : (a b : Entry) → (a.x == b.x && a.y == b.y) ≡ true → (a.x ≡ b.x) × (a.y ≡ b.y)
+pub same_pair : (a b : Entry) → (a.x == b.x && a.y == b.y) ≡ true → (a.x ≡ b.x) × (a.y ≡ b.y)
 same_pair a b h = let t = and_parts (a.x == b.x) (a.y == b.y) h in
     (eqb-true a.x b.x t.0, eqb-true a.y b.y t.1)
 

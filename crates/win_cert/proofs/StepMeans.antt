@@ -1,6 +1,7 @@
 -- A line that says something is written in the words of what it says.
-use Rattle.std.proofs.Common.{◌≡◌, ℕ, ◌≤◌, ◌⊎◌, ◌&&◌, leb, inl, inr, Bool, true, false, cond, List}
-use Rattle.std.proofs.Common.{[], ◌∷◌, length, Option, Some, None, refl, ap, sym, ◌∙◌, subst, codes}
+use Rattle.std.proofs.Common.{◌≡◌, ℕ, ◌≤◌, ◌⊎◌, ◌&&◌, eqb, leb, inl, inr, Bool, true, false, cond}
+use Rattle.std.proofs.Common.{List, [], ◌∷◌, length, map, Option, Some, None, refl, ap, sym, ◌∙◌}
+use Rattle.std.proofs.Common.{subst, codes}
 use Rattle.std.proofs.lemmas.Bool.{and_parts}
 use Rattle.std.specs.Fmt.{decimal}
 use Rattle.std.specs.List.{All}
@@ -14,16 +15,18 @@ use Rattle.conn_store.specs.declared.entries.Kind.{Kind}
 use Rattle.conn_store.specs.declared.entries.Kind.TheVariants.{Full, Semi}
 use Rattle.win_cert.specs.Named.{IsStatementOf, adj_in, alone, args_named, cases_in, set_named}
 use Rattle.win_cert.specs.Named.{claim_in, first_cell, first_end, first_number, is_in_version}
-use Rattle.win_cert.specs.Named.{keyword_named, move_in, numbers_named, or_after, or_in, pair_in}
+use Rattle.win_cert.specs.Named.{keyword_named, move_in, numbers_named, or_in, or_of, pair_in}
 use Rattle.win_cert.specs.Named.{put_in, statement_named, statement_words}
 use Rattle.win_cert.specs.Texts.{end_word, kind_word}
-use Rattle.win_cert.specs.declared.certs.TheConstants.{LATEST_VERSION}
+use Rattle.win_cert.specs.Writable.{HasScopes}
+use Rattle.win_cert.specs.declared.certs.TheConstants.{LATEST_VERSION, SECOND_VERSION}
 use Rattle.win_cert.specs.declared.keywords.Keyword.{Keyword}
 use Rattle.win_cert.specs.declared.keywords.Keyword.TheVariants as keyword
 use Rattle.win_cert.specs.declared.lines.Line.{Line}
 use Rattle.win_cert.specs.declared.lines.Line.TheVariants.{Adj, And, Key, Or2, Or3, Put, Done, Move}
-use Rattle.win_cert.specs.declared.lines.Line.TheVariants.{Cases}
-use Rattle.win_cert.specs.declared.lines.TheConstants.{LEAST_CASES, MOST_CASES, MOST_NUMBER}
+use Rattle.win_cert.specs.declared.lines.Line.TheVariants.{Cases, OrMany}
+use Rattle.win_cert.specs.declared.lines.TheConstants.{LEAST_CASES, LEAST_MANY, MOST_CASES}
+use Rattle.win_cert.specs.declared.lines.TheConstants.{MOST_NUMBER}
 use Rattle.win_cert.specs.declared.statements.Statement.{Statement}
 use Rattle.win_cert.specs.declared.statements.Statement.TheVariants.{Claim, Derivation}
 use Rattle.win_cert.proofs.CellSets.{cells_mean}
@@ -123,50 +126,59 @@ pair_means v n name line words s says e =
     subst (Means v n name words) r.0
     (subst (λ ws. Means v n name ws (Derivation (line p.0.0 q.0.0))) (sym is) (says p.0.0 q.0.0 i.few j.few))
 
-or_end : (v n i j : ℕ) (words : Words) (s : Statement) → i ≤ MOST_NUMBER → j ≤ MOST_NUMBER
-    → or_after i j words ≡ Some s
-    → Means v n (codes "or") (decimal i ∷ decimal j ∷ words) s
-or_end v n i j [] s a b e =
-    let same : Derivation (Or2 i j) ≡ s = cc in
-    subst (Means v n (codes "or") (decimal i ∷ decimal j ∷ [])) same (two i j a b, refl)
-or_end v n i j (word ∷ words) s a b e =
-    let p = some_of_then (λ k. alone (Derivation (Or3 i j k.0)) k.1)
-    (first_number (word ∷ words)) s e in
-    let r = alone_means (Derivation (Or3 i j p.0.0)) s p.0.1 p.2 in
-    let k = number_means (word ∷ words) p.0 p.1 in
-    subst (Means v n (codes "or") (decimal i ∷ decimal j ∷ word ∷ words)) r.0 (
-      All-cons (λ i. i ≤ MOST_NUMBER) i (j ∷ p.0.0 ∷ []) a (two j p.0.0 b k.few),
-      ap (λ ws. codes "or" ∷ decimal i ∷ decimal j ∷ ws) (k.is ∙ ap (λ ws. decimal p.0.0 ∷ ws) r.1),
+many_means : (v n : ℕ) (numbers : List ℕ) (s : Statement) → All (λ i. i ≤ MOST_NUMBER) numbers
+    → cond (eqb v LATEST_VERSION && leb LEAST_MANY (length numbers) && leb (length numbers) MOST_CASES) (Some (Derivation (OrMany numbers))) None ≡ Some s
+    → Means v n (codes "or") (map decimal numbers) s
+many_means v n numbers s few e =
+    let q = cond_some
+    (eqb v LATEST_VERSION && leb LEAST_MANY (length numbers) && leb (length numbers) MOST_CASES)
+    (Derivation (OrMany numbers)) s e in
+    let first = and_parts (eqb v LATEST_VERSION)
+    (leb LEAST_MANY (length numbers) && leb (length numbers) MOST_CASES) q.0 in
+    let both = and_parts (leb LEAST_MANY (length numbers)) (leb (length numbers) MOST_CASES)
+    first.1 in
+    subst (Means v n (codes "or") (map decimal numbers)) q.1 (
+      ((Decides-eqb v LATEST_VERSION).0 first.0, leb_says LEAST_MANY (length numbers) both.0, leb_says (length numbers) MOST_CASES both.1, few),
+      refl,
     )
 
-or_means : (v n : ℕ) (words : Words) (s : Statement) → or_in words ≡ Some s
+or_of_means : (v n : ℕ) (numbers : List ℕ) (s : Statement) → All (λ i. i ≤ MOST_NUMBER) numbers
+    → or_of v numbers ≡ Some s → Means v n (codes "or") (map decimal numbers) s
+or_of_means v n [] s few e = many_means v n [] s few e
+or_of_means v n (i ∷ []) s few e = many_means v n (i ∷ []) s few e
+or_of_means v n (i ∷ j ∷ []) s few e =
+    let same : Derivation (Or2 i j) ≡ s = cc in
+    subst (Means v n (codes "or") (decimal i ∷ decimal j ∷ [])) same (few, refl)
+or_of_means v n (i ∷ j ∷ k ∷ []) s few e =
+    let same : Derivation (Or3 i j k) ≡ s = cc in
+    subst (Means v n (codes "or") (decimal i ∷ decimal j ∷ decimal k ∷ [])) same (few, refl)
+or_of_means v n (i ∷ j ∷ k ∷ l ∷ rest) s few e = many_means v n (i ∷ j ∷ k ∷ l ∷ rest) s few e
+
+or_means : (v n : ℕ) (words : Words) (s : Statement) → or_in v words ≡ Some s
     → Means v n (codes "or") words s
 or_means v n words s e =
-    let p = some_of_then (λ i. option_and_then (λ j. or_after i.0 j.0 j.1) (first_number i.1))
-    (first_number words) s e in
-    let q = some_of_then (λ j. or_after p.0.0 j.0 j.1) (first_number p.0.1) s p.2 in
-    let i = number_means words p.0 p.1 in
-    let j = number_means p.0.1 q.0 q.1 in
-    subst (λ ws. Means v n (codes "or") ws s) (sym (i.is ∙ ap (λ ws. decimal p.0.0 ∷ ws) j.is))
-    (or_end v n p.0.0 q.0.0 q.0.1 s i.few j.few q.2)
+    let p = some_of_then (or_of v) (numbers_named words) s e in
+    let numbers = numbers_means words p.0 p.1 in
+    subst (λ ws. Means v n (codes "or") ws s) (sym numbers.1)
+    (or_of_means v n p.0 s numbers.0 p.2)
 
-put_means : (v n : ℕ) (words : Words) (s : Statement) → v ≡ LATEST_VERSION → put_in n words ≡ Some s
+put_means : (v n : ℕ) (words : Words) (s : Statement) → HasScopes v → put_in n words ≡ Some s
     → Means v n (codes "put") words s
-put_means v n words s latest e =
+put_means v n words s scopes e =
     let p = some_of_map (λ cells. Derivation (Put cells)) (set_named n 0 0 words) s e in
     let cells = cells_mean n words p.0 p.1 in
     subst (Means v n (codes "put") words) p.2
-    ((latest, cells.0), ap (λ ws. codes "put" ∷ ws) cells.1)
+    ((scopes, cells.0), ap (λ ws. codes "put" ∷ ws) cells.1)
 
-done_means : (v n : ℕ) (words : Words) (s : Statement) → v ≡ LATEST_VERSION
+done_means : (v n : ℕ) (words : Words) (s : Statement) → HasScopes v
     → alone (Derivation Done) words ≡ Some s → Means v n (codes "done") words s
-done_means v n words s latest e =
+done_means v n words s scopes e =
     let r = alone_means (Derivation Done) s words e in
-    subst (Means v n (codes "done") words) r.0 (latest, ap (λ ws. codes "done" ∷ ws) r.1)
+    subst (Means v n (codes "done") words) r.0 (scopes, ap (λ ws. codes "done" ∷ ws) r.1)
 
-move_means : (v n : ℕ) (words : Words) (s : Statement) → v ≡ LATEST_VERSION
+move_means : (v n : ℕ) (words : Words) (s : Statement) → HasScopes v
     → move_in n words ≡ Some s → Means v n (codes "move") words s
-move_means v n words s latest e =
+move_means v n words s scopes e =
     let p = some_of_then
     (λ k. option_and_then (λ i. alone (Derivation (Move k.0 i.0)) i.1) (first_number k.1))
     (first_cell n words) s e in
@@ -176,14 +188,14 @@ move_means v n words s latest e =
     let k = cell_first_means n words p.0 p.1 in
     let i = number_means p.0.1 q.0 q.1 in
     subst (Means v n (codes "move") words) r.0 (
-      (latest, k.0, one q.0.0 i.few),
+      (scopes, k.0, one q.0.0 i.few),
       ap (λ ws. codes "move" ∷ ws)
           (k.1 ∙ ap (λ ws. vertex_of n p.0.0 ∷ ws) (i.is ∙ ap (λ ws. decimal q.0.0 ∷ ws) r.1)),
     )
 
-cases_means : (v n : ℕ) (words : Words) (s : Statement) → v ≡ LATEST_VERSION
+cases_means : (v n : ℕ) (words : Words) (s : Statement) → HasScopes v
     → cases_in words ≡ Some s → Means v n (codes "cases") words s
-cases_means v n words s latest e =
+cases_means v n words s scopes e =
     let p = some_of_then
     (λ (numbers : List ℕ). cond (leb LEAST_CASES (length numbers) && leb (length numbers) MOST_CASES) (Some (Derivation (Cases numbers))) None)
     (numbers_named words) s e in
@@ -192,7 +204,7 @@ cases_means v n words s latest e =
     let both = and_parts (leb LEAST_CASES (length p.0)) (leb (length p.0) MOST_CASES) q.0 in
     let numbers = numbers_means words p.0 p.1 in
     subst (Means v n (codes "cases") words) q.1 (
-      (latest, leb_says LEAST_CASES (length p.0) both.0, leb_says (length p.0) MOST_CASES both.1, numbers.0),
+      (scopes, leb_says LEAST_CASES (length p.0) both.0, leb_says (length p.0) MOST_CASES both.1, numbers.0),
       ap (λ ws. codes "cases" ∷ ws) numbers.1,
     )
 
@@ -208,7 +220,7 @@ claim_means v n kind words s e =
     )
 
 args_means : (v n : ℕ) (k : Keyword) (words : Words) (s : Statement) → is_in_version v k ≡ true
-    → args_named n k words ≡ Some s
+    → args_named v n k words ≡ Some s
     → Means v n (keyword_text k) words s
 unfolding keyword_text
 args_means v n keyword.Adj words s t e = adj_means v n words s e
@@ -218,13 +230,13 @@ args_means v n keyword.Key words s t e
     = pair_means v n (codes "key") Key words s (λ i j a b. (two i j a b, refl)) e
 args_means v n keyword.Or words s t e = or_means v n words s e
 args_means v n keyword.Put words s t e
-    = put_means v n words s ((Decides-eqb v LATEST_VERSION).0 t) e
+    = put_means v n words s (leb_says SECOND_VERSION v t) e
 args_means v n keyword.Done words s t e
-    = done_means v n words s ((Decides-eqb v LATEST_VERSION).0 t) e
+    = done_means v n words s (leb_says SECOND_VERSION v t) e
 args_means v n keyword.Move words s t e
-    = move_means v n words s ((Decides-eqb v LATEST_VERSION).0 t) e
+    = move_means v n words s (leb_says SECOND_VERSION v t) e
 args_means v n keyword.Cases words s t e
-    = cases_means v n words s ((Decides-eqb v LATEST_VERSION).0 t) e
+    = cases_means v n words s (leb_says SECOND_VERSION v t) e
 args_means v n keyword.Full words s t e = claim_means v n Full words s e
 args_means v n keyword.Semi words s t e = claim_means v n Semi words s e
 
@@ -233,8 +245,8 @@ pub step_means : (v n : ℕ) (words : Words) (s : Statement) → statement_named
     → IsStatementOf v n s × (words ≡ statement_words n s)
 step_means v n [] s e = cc
 step_means v n (word ∷ words) s e =
-    let p = some_of_then (λ k. cond (is_in_version v k) (args_named n k words) None)
+    let p = some_of_then (λ k. cond (is_in_version v k) (args_named v n k words) None)
     (keyword_named word) s e in
-    let q = some_of_test (is_in_version v p.0) (args_named n p.0 words) s p.2 in
+    let q = some_of_test (is_in_version v p.0) (args_named v n p.0 words) s p.2 in
     let means = args_means v n p.0 words s q.0 q.1 in
     (means.0, ap (λ w. w ∷ words) (keyword_means word p.0 p.1) ∙ means.1)

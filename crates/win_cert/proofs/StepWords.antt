@@ -1,6 +1,6 @@
 -- What the words of a line say is what they are the words of, and the other way round.
-use Rattle.std.proofs.Common.{◌≡◌, ℕ, ◌*◌, ◌<◌, ◌≤◌, ◌&&◌, leb, true, cond, List, [], ◌∷◌, length}
-use Rattle.std.proofs.Common.{map, Some, None, refl, ap, ◌∙◌, codes, arith}
+use Rattle.std.proofs.Common.{◌≡◌, ℕ, ◌*◌, ◌<◌, ◌≤◌, ◌&&◌, eqb, leb, true, cond, List, [], ◌∷◌}
+use Rattle.std.proofs.Common.{length, map, Some, None, refl, ap, ◌∙◌, codes, arith}
 use Rattle.std.specs.Fmt.{decimal}
 use Rattle.std.specs.List.{All}
 use Rattle.std.specs.Option.{option_and_then, option_map}
@@ -10,17 +10,18 @@ use Rattle.conn_store.specs.declared.entries.Kind.{Kind}
 use Rattle.conn_store.specs.declared.entries.Kind.TheVariants.{Full, Semi}
 use Rattle.win_cert.specs.Named.{IsStatementOf, adj_in, alone, args_named, cases_in, claim_in}
 use Rattle.win_cert.specs.Named.{first_end, first_number, is_in_version, keyword_named, move_in}
-use Rattle.win_cert.specs.Named.{or_after, or_in, pair_in, statement_named, statement_words}
+use Rattle.win_cert.specs.Named.{or_in, or_of, pair_in, statement_named, statement_words}
 use Rattle.win_cert.specs.Texts.{end_word, vertices_of}
 use Rattle.win_cert.specs.Writable.{IsEndOn}
-use Rattle.win_cert.specs.declared.certs.TheConstants.{LATEST_VERSION}
+use Rattle.win_cert.specs.declared.certs.TheConstants.{LATEST_VERSION, SECOND_VERSION}
 use Rattle.win_cert.specs.declared.keywords.Keyword.{Keyword}
 use Rattle.win_cert.specs.declared.keywords.Keyword.TheVariants as keyword
 use Rattle.win_cert.specs.declared.lines.End.{End}
 use Rattle.win_cert.specs.declared.lines.Line.{Line}
 use Rattle.win_cert.specs.declared.lines.Line.TheVariants.{Adj, And, Key, Or2, Or3, Put, Done, Move}
-use Rattle.win_cert.specs.declared.lines.Line.TheVariants.{Cases}
-use Rattle.win_cert.specs.declared.lines.TheConstants.{LEAST_CASES, MOST_CASES, MOST_NUMBER}
+use Rattle.win_cert.specs.declared.lines.Line.TheVariants.{Cases, OrMany}
+use Rattle.win_cert.specs.declared.lines.TheConstants.{LEAST_CASES, LEAST_MANY, MOST_CASES}
+use Rattle.win_cert.specs.declared.lines.TheConstants.{MOST_NUMBER}
 use Rattle.win_cert.specs.declared.statements.Statement.{Statement}
 use Rattle.win_cert.specs.declared.statements.Statement.TheVariants.{Claim, Derivation}
 use Rattle.win_cert.proofs.CellSets.{cells_back}
@@ -32,10 +33,10 @@ use Rattle.win_cert.proofs.WordParts.{Words, cell_first, end_first, number_back,
 -- a line with this keyword
 by_keyword : (v n : ℕ) (word : List ℕ) (words : Words) (k : Keyword) → keyword_named word ≡ Some k
     → is_in_version v k ≡ true
-    → statement_named v n (word ∷ words) ≡ args_named n k words
+    → statement_named v n (word ∷ words) ≡ args_named v n k words
 by_keyword v n word words k e in_version =
-    ap (option_and_then (λ k. cond (is_in_version v k) (args_named n k words) None)) e
-    ∙ ap (λ b. cond b (args_named n k words) None) in_version
+    ap (option_and_then (λ k. cond (is_in_version v k) (args_named v n k words) None)) e
+    ∙ ap (λ b. cond b (args_named v n k words) None) in_version
 
 pair_back : (line : ℕ → ℕ → Line) (i j : ℕ) → All (λ i. i ≤ MOST_NUMBER) (i ∷ j ∷ [])
     → pair_in line (decimal i ∷ decimal j ∷ []) ≡ Some (Derivation (line i j))
@@ -52,22 +53,35 @@ adj_back n x y size on_x on_y =
     (end_first n x (end_word n y ∷ []) size on_x)
     ∙ ap (option_and_then (λ q. alone (Derivation (Adj x q.0)) q.1)) (end_first n y [] size on_y)
 
-or_two_back : (i j : ℕ) → All (λ i. i ≤ MOST_NUMBER) (i ∷ j ∷ [])
-    → or_in (decimal i ∷ decimal j ∷ []) ≡ Some (Derivation (Or2 i j))
-or_two_back i j few =
-    ap (option_and_then (λ p. option_and_then (λ q. or_after p.0 q.0 q.1) (first_number p.1)))
-    (number_back i (decimal j ∷ []) (few 0 0 (omega arith)))
-    ∙ ap (option_and_then (λ q. or_after i q.0 q.1)) (number_back j [] (few 1 0 (omega arith)))
+or_two_back : (v i j : ℕ) → All (λ i. i ≤ MOST_NUMBER) (i ∷ j ∷ [])
+    → or_in v (decimal i ∷ decimal j ∷ []) ≡ Some (Derivation (Or2 i j))
+or_two_back v i j few = ap (option_and_then (or_of v)) (numbers_back (i ∷ j ∷ []) few)
 
-or_three_back : (i j k : ℕ) → All (λ i. i ≤ MOST_NUMBER) (i ∷ j ∷ k ∷ [])
-    → or_in (decimal i ∷ decimal j ∷ decimal k ∷ []) ≡ Some (Derivation (Or3 i j k))
-or_three_back i j k few =
-    ap (option_and_then (λ p. option_and_then (λ q. or_after p.0 q.0 q.1) (first_number p.1)))
-    (number_back i (decimal j ∷ decimal k ∷ []) (few 0 0 (omega arith)))
-    ∙ ap (option_and_then (λ q. or_after i q.0 q.1))
-    (number_back j (decimal k ∷ []) (few 1 0 (omega arith)))
-    ∙ ap (option_and_then (λ r. alone (Derivation (Or3 i j r.0)) r.1))
-    (number_back k [] (few 2 0 (omega arith)))
+or_three_back : (v i j k : ℕ) → All (λ i. i ≤ MOST_NUMBER) (i ∷ j ∷ k ∷ [])
+    → or_in v (decimal i ∷ decimal j ∷ decimal k ∷ []) ≡ Some (Derivation (Or3 i j k))
+or_three_back v i j k few = ap (option_and_then (or_of v)) (numbers_back (i ∷ j ∷ k ∷ []) few)
+
+or_many_of : (v : ℕ) (numbers : List ℕ) → v ≡ LATEST_VERSION → LEAST_MANY ≤ length numbers
+    → length numbers ≤ MOST_CASES → or_of v numbers ≡ Some (Derivation (OrMany numbers))
+or_many_of v [] latest least most = absurd (omega (arith, least))
+or_many_of v (i ∷ []) latest least most = absurd (omega (arith, least))
+or_many_of v (i ∷ j ∷ []) latest least most = absurd (omega (arith, least))
+or_many_of v (i ∷ j ∷ k ∷ []) latest least most = absurd (omega (arith, least))
+or_many_of v (i ∷ j ∷ k ∷ l ∷ rest) latest least most =
+    let numbers : List ℕ = i ∷ j ∷ k ∷ l ∷ rest in
+    let line = Some (Derivation (OrMany numbers)) in
+    ap (λ b. cond (b && leb LEAST_MANY (length numbers) && leb (length numbers) MOST_CASES) line None)
+    ((Decides-eqb v LATEST_VERSION).1 latest)
+    ∙ ap (λ b. cond (b && leb (length numbers) MOST_CASES) line None)
+    (leb_holds LEAST_MANY (length numbers) least)
+    ∙ ap (λ b. cond b line None) (leb_holds (length numbers) MOST_CASES most)
+
+or_many_back : (v : ℕ) (numbers : List ℕ) → v ≡ LATEST_VERSION → LEAST_MANY ≤ length numbers
+    → length numbers ≤ MOST_CASES → All (λ i. i ≤ MOST_NUMBER) numbers
+    → or_in v (map decimal numbers) ≡ Some (Derivation (OrMany numbers))
+or_many_back v numbers latest least most few =
+    ap (option_and_then (or_of v)) (numbers_back numbers few)
+    ∙ or_many_of v numbers latest least most
 
 move_back : (n k i : ℕ) → n ≤ 11 → k < n * n → All (λ i. i ≤ MOST_NUMBER) (i ∷ [])
     → move_in n (vertex_of n k ∷ decimal i ∷ []) ≡ Some (Derivation (Move k i))
@@ -108,23 +122,26 @@ step_back v n (Derivation (Key i j)) size is
     ∙ pair_back Key i j is
 step_back v n (Derivation (Or2 i j)) size is
     = by_keyword v n (codes "or") (decimal i ∷ decimal j ∷ []) keyword.Or refl refl
-    ∙ or_two_back i j is
+    ∙ or_two_back v i j is
 step_back v n (Derivation (Or3 i j k)) size is
     = by_keyword v n (codes "or") (decimal i ∷ decimal j ∷ decimal k ∷ []) keyword.Or refl refl
-    ∙ or_three_back i j k is
+    ∙ or_three_back v i j k is
+step_back v n (Derivation (OrMany numbers)) size is
+    = by_keyword v n (codes "or") (map decimal numbers) keyword.Or refl refl
+    ∙ or_many_back v numbers is.0 is.1 is.2 is.3
 step_back v n (Derivation (Put s)) size is
     = by_keyword v n (codes "put") (vertices_of n s) keyword.Put refl
-    ((Decides-eqb v LATEST_VERSION).1 is.0)
+    (leb_holds SECOND_VERSION v is.0)
     ∙ ap (option_map (λ s. Derivation (Put s))) (cells_back n s size is.1)
 step_back v n (Derivation Done) size is = by_keyword v n (codes "done") [] keyword.Done refl
-    ((Decides-eqb v LATEST_VERSION).1 is)
+    (leb_holds SECOND_VERSION v is)
 step_back v n (Derivation (Move k i)) size is
     = by_keyword v n (codes "move") (vertex_of n k ∷ decimal i ∷ []) keyword.Move refl
-    ((Decides-eqb v LATEST_VERSION).1 is.0)
+    (leb_holds SECOND_VERSION v is.0)
     ∙ move_back n k i size is.1 is.2
 step_back v n (Derivation (Cases numbers)) size is
     = by_keyword v n (codes "cases") (map decimal numbers) keyword.Cases refl
-    ((Decides-eqb v LATEST_VERSION).1 is.0)
+    (leb_holds SECOND_VERSION v is.0)
     ∙ cases_back numbers is.1 is.2 is.3
 step_back v n (Claim Full i) size is
     = by_keyword v n (codes "full") (decimal i ∷ []) keyword.Full refl refl ∙ claim_back Full i is

@@ -14,7 +14,7 @@ use Rattle.win_cert.specs.Verdicts.{Accepted, reason_at}
 use Rattle.win_cert.specs.declared.certs.Cert.{Cert}
 use Rattle.win_cert.specs.declared.lines.Line.{Line}
 use Rattle.win_cert.specs.declared.lines.Line.TheVariants.{Adj, And, Key, Or2, Or3, Put, Done, Move}
-use Rattle.win_cert.specs.declared.lines.Line.TheVariants.{Cases}
+use Rattle.win_cert.specs.declared.lines.Line.TheVariants.{Cases, OrMany}
 use Rattle.win_cert.specs.Contexts.{context_after}
 use Rattle.win_cert.proofs.GivenEntries.{at_left, at_claim, past_claim}
 
@@ -27,6 +27,7 @@ scope_cons s (And i j) lines = refl
 scope_cons s (Key i j) lines = refl
 scope_cons s (Or2 i j) lines = refl
 scope_cons s (Or3 i j k) lines = refl
+scope_cons s (OrMany numbers) lines = refl
 scope_cons s (Put cells) lines = refl
 scope_cons s Done lines = refl
 scope_cons s (Move k i) lines = refl

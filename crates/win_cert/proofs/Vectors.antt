@@ -1,5 +1,5 @@
 -- Certificates on which the definitions are computed: V1, V2 and V3, and changed ones.
-use Rattle.std.specs.Prelude.{◌≡◌, ℕ, [], ◌∷◌, ◌++◌, Some, None, suc, refl, map, replicate, codes}
+use Rattle.std.specs.Prelude.{◌≡◌, ℕ, List, [], ◌∷◌, ◌++◌, Some, None, suc, refl, map, replicate, codes}
 use Rattle.std.specs.List.{range_with_len, slice_set}
 use Rattle.std.specs.Fmt.{digits}
 use Rattle.hex_cells.specs.Sets.{has}
@@ -13,13 +13,13 @@ use Rattle.win_cert.specs.declared.reasons.Reason.TheVariants.{CommonCell, EndIn
 use Rattle.win_cert.specs.declared.reasons.Reason.TheVariants.{MiddleKind, NoCommonMiddle, NotEdges}
 use Rattle.win_cert.specs.declared.reasons.Reason.TheVariants.{NotJoined, NotNeighbours}
 use Rattle.win_cert.specs.declared.reasons.Reason.TheVariants.{WrongColour, WrongScope}
-use Rattle.win_cert.specs.Texts.{cert_text}
+use Rattle.win_cert.specs.Texts.{cert_text, line_words}
 use Rattle.win_cert.specs.Verdicts.{claimed_entry, reason_at}
 use Rattle.win_cert.specs.declared.certs.Cert.{Cert}
 use Rattle.win_cert.specs.declared.lines.End.TheVariants.{At, First, Second}
 use Rattle.win_cert.specs.declared.lines.Line.{Line}
 use Rattle.win_cert.specs.declared.lines.Line.TheVariants.{Adj, And, Key, Or2, Put, Done, Move}
-use Rattle.win_cert.specs.declared.lines.Line.TheVariants.{Cases}
+use Rattle.win_cert.specs.declared.lines.Line.TheVariants.{Cases, OrMany}
 
 abbrev v1 : Cert
 v1 = record {
@@ -85,6 +85,23 @@ v1_judged = refl
 or_twice_judged : IsRefusedAt (with_line v1 6 (Or2 4 4)) 6 CommonCell
 unfolding has is_joined leads_in reason_against
 or_twice_judged = refl
+
+-- V1 in version 3, with an `or` of these numbers
+abbrev of_many : List ℕ → Cert
+of_many numbers = record (with_line v1 6 (OrMany numbers)) { version = 3 }
+
+or_many_text : line_words 2 (OrMany (4 ∷ 5 ∷ 4 ∷ 15 ∷ []))
+    ≡ codes "or" ∷ codes "4" ∷ codes "5" ∷ codes "4" ∷ codes "15" ∷ []
+unfolding digits
+or_many_text = refl
+
+or_many_judged : AreGoodTo (of_many (4 ∷ 5 ∷ 4 ∷ 5 ∷ [])) 10
+unfolding has is_joined leads_in reason_against
+or_many_judged = refl
+
+or_many_alike_judged : IsRefusedAt (of_many (4 ∷ 4 ∷ 4 ∷ 4 ∷ [])) 6 CommonCell
+unfolding has is_joined leads_in reason_against
+or_many_alike_judged = refl
 
 or_too_high_judged : IsRefusedAt (with_line v1 6 (Or2 4 9)) 6 BadReference
 unfolding has is_joined leads_in reason_against

@@ -8,8 +8,9 @@
 //! claim and the carrier of its entry, or the first line with a reason against it and that reason.
 //!
 //! **A caller** reads a text ([`read`]), writes one ([`write`]), raises a certificate to version 2
-//! ([`raise`]) and cuts one from a report ([`cut`], of an entry that [`edge_numbers`] names), or the
-//! lines of one entry or several ([`lines_onto`]). [`version_for`] is the version that lines need.
+//! ([`raise`]) and cuts one from a report ([`cut`], of an entry that [`edge_numbers`] names), or
+//! the lines of one entry or several ([`lines_onto`]). [`version_for`] is the version that lines
+//! need.
 //!
 //! **What is proved.** The text is a whole list of lines of words (specs/Texts.antt). `write` gives
 //! it. `read` answers the certificate whose text the bytes are, or exactly the first line that is

@@ -1,7 +1,7 @@
 //! The law of lines: the four rules of connection as lines of a certificate.
 
-ghost use Rattle.win_cert.specs.RuleLines.{JoinOverCell, JoinOverGroup, OrOverThree, OrOverTwo};
-ghost use Rattle.win_cert.specs.RuleLines.{StandsForTwo, StandsForThree};
+ghost use Rattle.win_cert.specs.RuleLines.{JoinOverCell, JoinOverGroup, OrOverMany, OrOverThree};
+ghost use Rattle.win_cert.specs.RuleLines.{OrOverTwo, StandsForMany, StandsForThree, StandsForTwo};
 ghost use Rattle.win_cert.specs.declared.lines.Line.{Line};
 
 /// The law of lines. Of valid entries that earlier lines gave in its scope, a line has no reason
@@ -14,4 +14,5 @@ pub fn lines_are_rules()
     ensures cells { StandsForTwo Line.Key JoinOverCell }
     ensures twos { StandsForTwo Line.Or2 OrOverTwo }
     ensures threes { StandsForThree Line.Or3 OrOverThree }
+    ensures many { StandsForMany Line.OrMany OrOverMany }
 {}

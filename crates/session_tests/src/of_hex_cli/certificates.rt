@@ -15,6 +15,8 @@ migrate-nothing|migrate||1|not a certificate at line 1~
 line-ends|check|hexcert 1\r~|1|not a certificate at line 1~
 line-ends|migrate|hexcert 1~size 2\r~|1|not a certificate at line 2~
 line-ends|solve|\r~(;GM[11]\r~SZ[1];B[a1])\r~|0|over black~
+migrate-version-3|migrate|hexcert 3~size 1~player black~black~white~done~semi 0~|0|\
+hexcert 3~size 1~player black~black~white~done~semi 0~
 byte-order-mark|check|\u{feff}hexcert 1~|1|not a certificate at line 1~
 byte-order-mark|migrate|\u{feff}hexcert 1~|1|not a certificate at line 1~
 byte-order-mark|solve|\u{feff}(;GM[11]SZ[1];B[a1])|1|not a game~

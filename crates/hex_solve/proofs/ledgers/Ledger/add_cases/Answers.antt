@@ -5,7 +5,7 @@ use Rattle.hex_solve.specs.Ledgers.{AnswerAll}
 use Rattle.hex_solve.specs.Ledgers.{IsLedger, LedgerData}
 use Rattle.hex_board.specs.Elements.{PlayerBoard}
 use Rattle.win_cert.specs.Writable.{IsLineOf}
-use Rattle.win_cert.specs.declared.certs.TheConstants.{LATEST_VERSION}
+use Rattle.win_cert.specs.declared.certs.TheConstants.{SECOND_VERSION}
 use Rattle.hex_solve.proofs.AddedLines.{base_kept, counts_second, follows_second, grows_second}
 use Rattle.hex_solve.proofs.AddedLines.{none_lost, put_follows, room_had, shown_second}
 use Rattle.hex_solve.proofs.AddedCases.{cases_form, cases_two}
@@ -29,7 +29,7 @@ add-requires-2 c = λ l.
       follows_second d c.add.new.self (Put c.scope-scope.result)
           (Cases c.of.result) w c.in_ok-add.ensures
           (λ y. (cases_two d p c.scope-scope.result c.requires.room.0 c.of.result w c.requires.keeps c.scope-scope.ensures c.requires.room.1 answers y).0) l,
-      subst (λ (b : PlayerBoard). IsLineOf LATEST_VERSION b.board.size (Cases c.of.result))
+      subst (λ (b : PlayerBoard). IsLineOf SECOND_VERSION b.board.size (Cases c.of.result))
           (sym (base_kept d c.add.new.self (Put c.scope-scope.result) c.in_ok-add.ensures))
           (cases_form d p c.requires.room.0 c.of.result w c.requires.room.1 few answers z),
     )

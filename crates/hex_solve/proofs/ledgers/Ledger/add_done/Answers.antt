@@ -1,4 +1,4 @@
-use Rattle.std.proofs.Common.{◌≡◌, ◌+◌, length, refl, ap, subst, arith}
+use Rattle.std.proofs.Common.{◌≡◌, ◌+◌, length, ap, subst, arith}
 use Rattle.conn_store.specs.declared.entries.Kind.TheVariants.{Full}
 use Rattle.win_cert.specs.declared.lines.Line.TheVariants.{Put, Done}
 use Rattle.hex_solve.specs.Ledgers.{IsLedger, LedgerData}
@@ -15,7 +15,7 @@ add-requires-2 c = λ l. (
   follows_second c.args.self.now c.add.new.self (Put c.scope-scope.result) Done
       (subst IsLedger c.self.view_is c.self.invariant) c.in_ok-add.ensures
       (λ z. (done_two c.args.self.now c.args.board.now c.scope-scope.result c.requires.keeps c.scope-scope.ensures c.requires.joined).0) l,
-  refl,
+  omega arith,
 )
 
 pub returns-clause-shows : goal.returns-clause-shows

@@ -7,7 +7,7 @@ use Rattle.hex_solve.proofs.AddedLines.{move_form, move_two, none_lost, put_foll
 use Rattle.hex_solve.proofs.AddedLines.{shown_second}
 use Rattle.hex_board.specs.Elements.{PlayerBoard}
 use Rattle.win_cert.specs.Writable.{IsLineOf}
-use Rattle.win_cert.specs.declared.certs.TheConstants.{LATEST_VERSION}
+use Rattle.win_cert.specs.declared.certs.TheConstants.{SECOND_VERSION}
 use Rattle.hex_solve.proofs.ledgers.Ledger.add_move.Goals as goal
 
 pub add-requires : goal.add-requires
@@ -22,7 +22,7 @@ add-requires-2 c = λ l.
       follows_second c.args.self.now c.add.new.self (Put c.scope-scope.result)
           (Move c.args.cell c.args.line) w c.in_ok-add.ensures
           (λ y. (move_two c.args.self.now c.args.board.now c.scope-scope.result c.args.cell c.args.line c.requires.keeps c.scope-scope.ensures c.requires.empty c.requires.shows y).0) l,
-      subst (λ (b : PlayerBoard). IsLineOf LATEST_VERSION b.board.size (Move c.args.cell c.args.line)) (sym (base_kept c.args.self.now c.add.new.self (Put c.scope-scope.result) c.in_ok-add.ensures))
+      subst (λ (b : PlayerBoard). IsLineOf SECOND_VERSION b.board.size (Move c.args.cell c.args.line)) (sym (base_kept c.args.self.now c.add.new.self (Put c.scope-scope.result) c.in_ok-add.ensures))
           (move_form c.args.self.now c.args.board.now c.args.cell c.args.line w c.requires.keeps c.requires.empty c.requires.shows z),
     )
 
