@@ -1,5 +1,8 @@
 //! Entries: connections of two elements.
 
+ghost use Rattle.std.specs.Prelude.{◌≡◌, ◌↔◌, ◌≤◌, IsTrue};
+ghost use Rattle.edge_reach.specs.declared.entries.State.{State};
+
 use conn_store::Kind;
 use hex_cells::CellSet;
 
@@ -51,7 +54,10 @@ pub struct Entry {
 impl Entry {
     /// An entry that waits.
     #[inline(always)]
-    pub(crate) fn of(kind: Kind, x: u8, y: u8, carrier: CellSet, cause: Cause) -> Entry {
+    pub(crate) fn of(kind: Kind, x: u8, y: u8, carrier: CellSet, cause: Cause) -> Entry
+        ensures ordered { result.x ≤ result.y }
+        ensures carrier { result.carrier ≡ carrier }
+    {
         let (x, y) = if x < y { (x, y) } else { (y, x) };
         Entry {
             kind,
@@ -66,12 +72,16 @@ impl Entry {
 
     /// Whether it connects the player's edges.
     #[inline(always)]
-    pub(crate) fn is_between_edges(&self) -> bool {
+    pub(crate) fn is_between_edges(&self) -> bool
+        ensures { IsTrue result ↔ (self.now.x ≡ 0) × (self.now.y ≡ 1) }
+    {
         self.x == 0 && self.y == 1
     }
 
     /// Whether a narrower one stands in its place.
-    pub fn is_given_up(&self) -> bool {
+    pub fn is_given_up(&self) -> bool
+        ensures { IsTrue result ↔ self.now.state ≡ State.GivenUp }
+    {
         self.state == State::GivenUp
     }
 }

@@ -1,5 +1,8 @@
 //! What a report found so far: its entries, by pair and kind.
 
+ghost use Rattle.std.specs.Prelude.{◌≡◌};
+ghost use Rattle.edge_reach.specs.Reports.{edge_numbers};
+
 use super::entries::{Cause, Entry, State};
 use super::held::{Held, MOST_FULL, MOST_SEMI, give_up};
 use super::queues::Queue;
@@ -86,7 +89,9 @@ impl Found {
     }
 
     /// The entries, in the order in which they were found.
-    pub(crate) fn entries(&self) -> &[Entry] {
+    pub(crate) fn entries(&self) -> &[Entry]
+        ensures { result.now ≡ self.now.entries.items }
+    {
         &self.entries
     }
 
@@ -102,7 +107,9 @@ impl Found {
     }
 
     /// The numbers of the entries between the edges.
-    pub(crate) fn between_edges(&self, kind: Kind) -> &[u32] {
+    pub(crate) fn between_edges(&self, kind: Kind) -> &[u32]
+        ensures { result.now ≡ edge_numbers self.now kind }
+    {
         match kind {
             Kind::Full => &self.edge_full,
             Kind::Semi => &self.edge_semi,

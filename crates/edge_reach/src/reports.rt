@@ -1,5 +1,10 @@
 //! Reports: H-search, small carriers first.
 
+ghost use Rattle.std.specs.Prelude.{◌≡◌, length, option_map};
+ghost use Rattle.std.specs.List.{slice_get};
+ghost use Rattle.edge_reach.specs.Reports.{entries_of, numbers_of};
+ghost use Rattle.edge_reach.specs.declared.entries.End.{End};
+
 use super::circuits::Circuit;
 use super::elements::Elements;
 use super::entries::{Cause, End, Entry, MOST_UNITED};
@@ -72,17 +77,23 @@ impl Reach {
     }
 
     /// The numbers of the entries between the edges, those that were given up among them.
-    pub fn between_edges(&self, kind: Kind) -> &[u32] {
+    pub fn between_edges(&self, kind: Kind) -> &[u32]
+        ensures { result.now ≡ numbers_of self.now kind }
+    {
         self.found.between_edges(kind)
     }
 
     /// How many entries there are.
-    pub fn count(&self) -> usize {
+    pub fn count(&self) -> usize
+        ensures { result ≡ length (entries_of self.now) }
+    {
         self.found.entries().len()
     }
 
     /// The entry with this number.
-    pub fn entry(&self, number: u32) -> Option<&Entry> {
+    pub fn entry(&self, number: u32) -> Option<&Entry>
+        ensures { option_map (λ e. e.now) result ≡ slice_get (entries_of self.now) number }
+    {
         self.found.entries().get(number as usize)
     }
 
@@ -97,7 +108,10 @@ impl Reach {
     }
 
     /// How an element is named at the end of a connection.
-    pub fn end(&self, element: u8) -> End {
+    pub fn end(&self, element: u8) -> End
+        ensures first { element ≡ 0 → result ≡ End.First }
+        ensures second { element ≡ 1 → result ≡ End.Second }
+    {
         self.elements.end(element)
     }
 
