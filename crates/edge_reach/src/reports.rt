@@ -263,8 +263,8 @@ impl Reach {
         Ok(())
     }
 
-    // The rule of OR with three or more others, if all of them have no cell in common: one entry, by
-    // greed.
+    // The rule of OR with three or more others, if all together have no cell in common: one entry,
+    // by greed.
     fn unite_many(&mut self, number: u32, entry: &Entry) -> Result<(), AllocError> {
         let mut common = entry.carrier;
         for (carrier, _other) in &self.others {
