@@ -11,7 +11,7 @@ use std::alloc::Global;
 use std::process::Abort;
 use std::rt::HostRuntime;
 use std::test::Fail;
-use win_cert::{MOST_LINES, Verdict, read};
+use win_cert::{LATEST_VERSION, MOST_LINES, SECOND_VERSION, Verdict, read};
 
 // That Black wins the empty board of size 2, in the version that its lines need.
 const BLACK_WINS: &[u8] = b"hexcert 2\nsize 2\nplayer black\nblack\nwhite\n\
@@ -43,6 +43,9 @@ const BUDGET: u64 = 10_000;
 
 // 3^3 for Black's stone on d1 of size 4.
 const AFTER_D1: u32 = 27;
+
+// 3^8 for Black's stone on d2 of size 5.
+const AFTER_D2: u32 = 6_561;
 
 // The least budget by which a program that was built before states were counted so won after d1.
 const ENTERED: u64 = 5;
@@ -111,6 +114,19 @@ fn certificates_are_compared(rt: HostRuntime) {
             panic!(rt; "there is memory");
         };
         assert_eq!(rt; answer.is_some(), expected);
+    }
+}
+
+#[test]
+fn version_is_what_lines_need(rt: HostRuntime) {
+    // The size, the stones, and the version of the certificate.
+    let rows = [(4, AFTER_D1, SECOND_VERSION), (5, AFTER_D2, LATEST_VERSION)];
+    for (size, stones, version) in rows {
+        let board = board(&rt, size, stones);
+        let Ok(Some(cert)) = find(rt.alloc(), &board, Colour::White, BUDGET) else {
+            panic!(rt; "a certificate is found");
+        };
+        assert_eq!(rt; cert.version, version);
     }
 }
 

@@ -2,6 +2,7 @@
 
 ghost use Rattle.std.specs.Prelude.{◌≡◌};
 ghost use Rattle.std.specs.Iterator.{at_most};
+ghost use Rattle.edge_reach.specs.declared.entries.End.{End};
 
 use super::entries::End;
 use super::reports::Question;
@@ -81,7 +82,10 @@ impl Elements {
     }
 
     /// What names an element at the end of a connection.
-    pub(crate) fn end(&self, element: u8) -> End {
+    pub(crate) fn end(&self, element: u8) -> End
+        ensures first { element ≡ 0 → result ≡ End.First }
+        ensures second { element ≡ 1 → result ≡ End.Second }
+    {
         match element {
             0 => End::First,
             1 => End::Second,

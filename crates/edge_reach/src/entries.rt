@@ -1,7 +1,13 @@
 //! Entries: connections of two elements.
 
+ghost use Rattle.std.specs.Prelude.{◌≡◌, ◌↔◌, ◌≤◌, IsTrue};
+ghost use Rattle.edge_reach.specs.declared.entries.State.{State};
+
 use conn_store::Kind;
 use hex_cells::CellSet;
+
+/// The most semi entries that together make a full one.
+pub const MOST_UNITED: usize = 8;
 
 /// The rule by which an entry follows, and the numbers of its premises.
 #[derive(Clone, Copy, Debug, PartialEq, Eq)]
@@ -16,6 +22,8 @@ pub enum Cause {
     Or2(u32, u32),
     /// Three of them.
     Or3(u32, u32, u32),
+    /// Four or more: so many numbers from this place on in the list that the report keeps.
+    OrMany(usize, usize),
 }
 
 /// What becomes of an entry.
@@ -46,7 +54,10 @@ pub struct Entry {
 impl Entry {
     /// An entry that waits.
     #[inline(always)]
-    pub(crate) fn of(kind: Kind, x: u8, y: u8, carrier: CellSet, cause: Cause) -> Entry {
+    pub(crate) fn of(kind: Kind, x: u8, y: u8, carrier: CellSet, cause: Cause) -> Entry
+        ensures ordered { result.x ≤ result.y }
+        ensures carrier { result.carrier ≡ carrier }
+    {
         let (x, y) = if x < y { (x, y) } else { (y, x) };
         Entry {
             kind,
@@ -61,12 +72,16 @@ impl Entry {
 
     /// Whether it connects the player's edges.
     #[inline(always)]
-    pub(crate) fn is_between_edges(&self) -> bool {
+    pub(crate) fn is_between_edges(&self) -> bool
+        ensures { IsTrue result ↔ (self.now.x ≡ 0) × (self.now.y ≡ 1) }
+    {
         self.x == 0 && self.y == 1
     }
 
     /// Whether a narrower one stands in its place.
-    pub fn is_given_up(&self) -> bool {
+    pub fn is_given_up(&self) -> bool
+        ensures { IsTrue result ↔ self.now.state ≡ State.GivenUp }
+    {
         self.state == State::GivenUp
     }
 }
@@ -82,17 +97,17 @@ pub enum End {
     Second,
 }
 
-/// The premises of a cause.
+/// The premises of a cause that has at most three.
 #[derive(Clone, Copy, Debug, PartialEq, Eq)]
 pub(crate) struct Premises {
     pub numbers: [Option<u32>; 3],
 }
 
 impl Cause {
-    /// The numbers of its premises.
+    /// The numbers of its premises; none of four or more, which the report's list has.
     pub(crate) fn premises(self) -> Premises {
         let numbers = match self {
-            Cause::Adjacent => [None, None, None],
+            Cause::Adjacent | Cause::OrMany(_, _) => [None, None, None],
             Cause::And(i, j) => [Some(i), Some(j), None],
             Cause::Key(i, j) => [Some(i), Some(j), None],
             Cause::Or2(i, j) => [Some(i), Some(j), None],

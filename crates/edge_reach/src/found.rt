@@ -1,5 +1,8 @@
 //! What a report found so far: its entries, by pair and kind.
 
+ghost use Rattle.std.specs.Prelude.{◌≡◌};
+ghost use Rattle.edge_reach.specs.Reports.{edge_numbers};
+
 use super::entries::{Cause, Entry, State};
 use super::held::{Held, MOST_FULL, MOST_SEMI, give_up};
 use super::queues::Queue;
@@ -28,6 +31,8 @@ const MOST_LINES: u32 = 1 << 28;
 pub(crate) struct Found {
     limits: Limits,
     entries: Vec<Entry>,
+    // The premises of the entries that have four or more, one list behind another.
+    many: Vec<u32>,
     fulls: Vec<Held<MOST_FULL>>,
     semis: Vec<Held<MOST_SEMI>>,
     queue: Queue,
@@ -56,6 +61,7 @@ impl Found {
         Ok(Found {
             limits,
             entries: Vec::new(alloc),
+            many: Vec::new(alloc),
             fulls,
             semis,
             queue,
@@ -75,6 +81,7 @@ impl Found {
             held.clear();
         }
         self.entries.clear();
+        self.many.clear();
         self.queue.clear();
         self.edge_full.clear();
         self.edge_semi.clear();
@@ -82,12 +89,27 @@ impl Found {
     }
 
     /// The entries, in the order in which they were found.
-    pub(crate) fn entries(&self) -> &[Entry] {
+    pub(crate) fn entries(&self) -> &[Entry]
+        ensures { result.now ≡ self.now.entries.items }
+    {
         &self.entries
     }
 
+    /// The premises of a cause that has four or more; none of another.
+    pub(crate) fn many(&self, cause: Cause) -> &[u32] {
+        match cause {
+            Cause::OrMany(first, count) => {
+                let end = first.saturating_add(count);
+                self.many.get(first..end).unwrap_or(&[])
+            }
+            _ => &[],
+        }
+    }
+
     /// The numbers of the entries between the edges.
-    pub(crate) fn between_edges(&self, kind: Kind) -> &[u32] {
+    pub(crate) fn between_edges(&self, kind: Kind) -> &[u32]
+        ensures { result.now ≡ edge_numbers self.now kind }
+    {
         match kind {
             Kind::Full => &self.edge_full,
             Kind::Semi => &self.edge_semi,
@@ -140,6 +162,19 @@ impl Found {
             Kind::Semi if entry.is_between_edges() => self.add_edge_semi(entry),
             Kind::Semi => self.add_semi(entry),
         }
+    }
+
+    /// Adds a full entry by four or more semi ones of its elements.
+    pub(crate) fn add_united(
+        &mut self,
+        x: u8,
+        y: u8,
+        carrier: CellSet,
+        premises: &[u32],
+    ) -> Result<(), AllocError> {
+        let cause = Cause::OrMany(self.many.len(), premises.len());
+        self.many.extend_from_slice(premises)?;
+        self.add_full(Entry::of(Kind::Full, x, y, carrier, cause))
     }
 
     fn add_full(&mut self, entry: Entry) -> Result<(), AllocError> {
@@ -221,15 +256,24 @@ impl Found {
 
     // The lines of a derivation by this cause.
     fn lines_by(&self, cause: Cause) -> u32 {
-        let mut lines = 1u32;
+        let mut lines = self.lines_of(self.many(cause));
         for premise in cause.premises().numbers {
-            if let Some(number) = premise
-                && let Some(entry) = self.entries.get(number as usize)
-            {
+            if let Some(number) = premise {
+                lines = lines.saturating_add(self.lines_of(&[number]));
+            }
+        }
+        lines.saturating_add(1).min(MOST_LINES)
+    }
+
+    // The lines of these entries together.
+    fn lines_of(&self, numbers: &[u32]) -> u32 {
+        let mut lines = 0u32;
+        for number in numbers {
+            if let Some(entry) = self.entries.get(*number as usize) {
                 lines = lines.saturating_add(entry.lines);
             }
         }
-        lines.min(MOST_LINES)
+        lines
     }
 
     // If this is the same entry, and lines are counted, gives it the shorter derivation.

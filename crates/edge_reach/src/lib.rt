@@ -9,12 +9,15 @@
 //! and reads what it found: [`Reach::between_edges`], [`Reach::entry`], [`Reach::derivation`], and
 //! the [`currents`].
 //!
-//! **What is proved.** That each call is safe and ends. Nothing of the entries: whoever makes a
-//! certificate of them has it checked.
+//! **What is proved.** That each call is safe and ends, and what the calls that read a report
+//! answer of what it has (specs/Reports.antt): [`Reach::entry`] the entry with this number,
+//! [`Reach::count`] how many there are, [`Reach::between_edges`] the numbers that it keeps,
+//! [`Entry::is_given_up`], and how [`Reach::end`] names the edges. Nothing of the entries
+//! themselves: whoever makes a certificate of them has it checked.
 //!
-//! **What is only tested, or not said.** That the entries are true, and how many are found. What
-//! the calls that read a report answer: no clause has a name for what a report keeps. That currents
-//! are those of the circuit, up to what is rounded.
+//! **What is only tested, or not said.** That the entries are true, and how many are found; that a
+//! derivation has all premises, and which entry of [`cells_of`] is next. That currents are those of
+//! the circuit, up to what is rounded.
 //!
 //! **Limits.** Those that a [`Reach`] is made with ([`Limits`]), at most [`MOST_FULL`] full and
 //! [`MOST_SEMI`] semi entries of a pair. Memory is kept from report to report.
@@ -26,6 +29,9 @@
 //!   place of wider ones, and by an end as soon as what it asks for is there.
 //! - Entries are taken in the order of their carriers' sizes: what is narrow makes more of others
 //!   needless.
+//! - Of semi entries that have no cell in common two and three are tried in each way, but of more
+//!   one choice alone, by greed: a third of the positions are left to enter, at about the same time
+//!   for each.
 //! - Elements are taken out of a circuit from the last one down, each by the star-mesh rule: an
 //!   element with wires a, b, .. of the sum G gives way to a wire of a·b/G between each two of its
 //!   neighbours. What is left in its row are the shares a/G, from which potentials follow upwards.
@@ -45,7 +51,7 @@ mod walks;
 
 pub use circuits::{Circuit, FLOW};
 pub use elements::{Cells, cells_of};
-pub use entries::{Cause, End, Entry};
+pub use entries::{Cause, End, Entry, MOST_UNITED};
 pub use found::Limits;
 pub use held::{MOST_FULL, MOST_SEMI};
 pub use reports::{Question, Reach, Until};

@@ -1,8 +1,13 @@
 //! Reports: H-search, small carriers first.
 
+ghost use Rattle.std.specs.Prelude.{◌≡◌, length, option_map};
+ghost use Rattle.std.specs.List.{slice_get};
+ghost use Rattle.edge_reach.specs.Reports.{entries_of, numbers_of};
+ghost use Rattle.edge_reach.specs.declared.entries.End.{End};
+
 use super::circuits::Circuit;
 use super::elements::Elements;
-use super::entries::{Cause, End, Entry};
+use super::entries::{Cause, End, Entry, MOST_UNITED};
 use super::found::{Found, Limits};
 use super::walks::Walk;
 use conn_store::Kind;
@@ -48,6 +53,8 @@ pub struct Reach {
     ways: Vec<Vec<Way>>,
     // The semi entries of a pair that were taken.
     others: Vec<(CellSet, u32)>,
+    // Of these the ones that are united.
+    united: Vec<u32>,
     walk: Walk,
 }
 
@@ -64,32 +71,47 @@ impl Reach {
             found,
             ways,
             others: Vec::new(alloc),
+            united: Vec::new(alloc),
             walk: Walk::make(alloc),
         })
     }
 
     /// The numbers of the entries between the edges, those that were given up among them.
-    pub fn between_edges(&self, kind: Kind) -> &[u32] {
+    pub fn between_edges(&self, kind: Kind) -> &[u32]
+        ensures { result.now ≡ numbers_of self.now kind }
+    {
         self.found.between_edges(kind)
     }
 
     /// How many entries there are.
-    pub fn count(&self) -> usize {
+    pub fn count(&self) -> usize
+        ensures { result ≡ length (entries_of self.now) }
+    {
         self.found.entries().len()
     }
 
     /// The entry with this number.
-    pub fn entry(&self, number: u32) -> Option<&Entry> {
+    pub fn entry(&self, number: u32) -> Option<&Entry>
+        ensures { option_map (λ e. e.now) result ≡ slice_get (entries_of self.now) number }
+    {
         self.found.entries().get(number as usize)
+    }
+
+    /// The premises of a cause that has four or more; none of another.
+    pub fn many(&self, cause: Cause) -> &[u32] {
+        self.found.many(cause)
     }
 
     /// The entries on which one rests, each behind those on which it rests, itself the last.
     pub fn derivation(&mut self, number: u32) -> Result<&[u32], AllocError> {
-        self.walk.walk(self.found.entries(), number)
+        self.walk.walk(&self.found, number)
     }
 
     /// How an element is named at the end of a connection.
-    pub fn end(&self, element: u8) -> End {
+    pub fn end(&self, element: u8) -> End
+        ensures first { element ≡ 0 → result ≡ End.First }
+        ensures second { element ≡ 1 → result ≡ End.Second }
+    {
         self.elements.end(element)
     }
 
@@ -208,9 +230,15 @@ impl Reach {
         Ok(())
     }
 
-    // The rule of OR: a semi entry with one or two others of its pair.
+    // The rule of OR: a semi entry with others of its pair.
     fn unite(&mut self, number: u32, entry: &Entry) -> Result<(), AllocError> {
         self.list_others(number, entry)?;
+        self.unite_few(number, entry)?;
+        self.unite_many(number, entry)
+    }
+
+    // The rule of OR with one or two others.
+    fn unite_few(&mut self, number: u32, entry: &Entry) -> Result<(), AllocError> {
         let (x, y) = (entry.x, entry.y);
         for place in 0..self.others.len() {
             let Some((carrier, second)) = self.others.get(place).copied() else {
@@ -235,6 +263,42 @@ impl Reach {
         Ok(())
     }
 
+    // The rule of OR with three or more others, if all together have no cell in common: one entry,
+    // by greed.
+    fn unite_many(&mut self, number: u32, entry: &Entry) -> Result<(), AllocError> {
+        let mut common = entry.carrier;
+        for (carrier, _other) in &self.others {
+            common = common.meet(*carrier);
+        }
+        if !common.is_empty() {
+            return Ok(());
+        }
+        if let Some(carrier) = self.gather(number, entry)?
+            && 3 < self.united.len()
+        {
+            self.found
+                .add_united(entry.x, entry.y, carrier, &self.united)?;
+        }
+        Ok(())
+    }
+
+    // Gathers semi entries of the pair, this one first, until they have no cell in common: their
+    // carriers together. `None` if [`MOST_UNITED`] still have one.
+    fn gather(&mut self, number: u32, entry: &Entry) -> Result<Option<CellSet>, AllocError> {
+        self.united.clear();
+        self.united.push(number)?;
+        let (mut common, mut union) = (entry.carrier, entry.carrier);
+        for _other in 1..MOST_UNITED {
+            let Some((carrier, other)) = best_beside(&self.others, common, union) else {
+                break;
+            };
+            common = common.meet(carrier);
+            union = union.union(carrier);
+            self.united.push(other)?;
+        }
+        Ok(if common.is_empty() { Some(union) } else { None })
+    }
+
     // Lists the semi entries of the pair that were taken before.
     fn list_others(&mut self, number: u32, entry: &Entry) -> Result<(), AllocError> {
         self.others.clear();
@@ -251,4 +315,24 @@ impl Reach {
         }
         Ok(())
     }
+}
+
+// Of the entries that leave fewer cells in common the one that takes away the most for each cell
+// that its carrier adds, these taken as two more. By trial.
+fn best_beside(
+    others: &[(CellSet, u32)],
+    common: CellSet,
+    union: CellSet,
+) -> Option<(CellSet, u32)> {
+    let mut best = None;
+    let (mut best_gain, mut best_price) = (0u32, 1u32);
+    for (carrier, other) in others {
+        let gain = common.minus(*carrier).count();
+        let price = carrier.minus(union).count() + 2;
+        if best_gain.saturating_mul(price) < gain.saturating_mul(best_price) {
+            best = Some((*carrier, *other));
+            (best_gain, best_price) = (gain, price);
+        }
+    }
+    best
 }

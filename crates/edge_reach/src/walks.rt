@@ -1,6 +1,6 @@
 //! Derivations: the entries on which an entry rests.
 
-use super::entries::Entry;
+use super::found::Found;
 use std::alloc::{AllocError, Global};
 
 // A step of a walk through premises.
@@ -32,9 +32,10 @@ impl Walk {
 
     /// The entries on which one rests, each behind those on which it rests, the one itself the
     /// last.
-    pub(crate) fn walk(&mut self, entries: &[Entry], number: u32) -> Result<&[u32], AllocError> {
-        if self.seen.len() < entries.len() {
-            self.seen.resize(entries.len(), false)?;
+    pub(crate) fn walk(&mut self, found: &Found, number: u32) -> Result<&[u32], AllocError> {
+        let count = found.entries().len();
+        if self.seen.len() < count {
+            self.seen.resize(count, false)?;
         }
         self.order.clear();
         self.open.clear();
@@ -43,7 +44,7 @@ impl Walk {
             match self.open.pop() {
                 None => break,
                 Some(Step::Leave(number)) => self.order.push(number)?,
-                Some(Step::Enter(number)) => self.enter(entries, number)?,
+                Some(Step::Enter(number)) => self.enter(found, number)?,
             }
         }
         self.forget();
@@ -51,8 +52,8 @@ impl Walk {
     }
 
     // Opens the premises of an entry that was not seen.
-    fn enter(&mut self, entries: &[Entry], number: u32) -> Result<(), AllocError> {
-        let Some(entry) = entries.get(number as usize) else {
+    fn enter(&mut self, found: &Found, number: u32) -> Result<(), AllocError> {
+        let Some(entry) = found.entries().get(number as usize) else {
             return Ok(());
         };
         let Some(seen) = self.seen.get_mut(number as usize) else {
@@ -63,6 +64,9 @@ impl Walk {
         }
         *seen = true;
         self.open.push(Step::Leave(number))?;
+        for premise in found.many(entry.cause).iter().rev() {
+            self.open.push(Step::Enter(*premise))?;
+        }
         let [first, second, third] = entry.cause.premises().numbers;
         for premise in [third, second, first] {
             if let Some(number) = premise {

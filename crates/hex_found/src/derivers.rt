@@ -1,6 +1,6 @@
 //! Derivations of entries between the edges, by H-search.
 
-use super::pools::{Derivation, Derived, Pool, Step};
+use super::pools::{Derivation, Derived, Places, Pool, Step};
 use conn_store::Kind;
 use edge_reach::{Cause, Entry, Limits, Question, Reach, Until};
 use edge_tables::{EdgeEntry, Key, Origin};
@@ -191,8 +191,9 @@ fn step_of(reach: &Reach, entry: &Entry, places: &[usize]) -> Step {
         }
         Cause::And(i, j) => Step::And(at(i), at(j)),
         Cause::Key(i, j) => Step::Key(at(i), at(j)),
-        Cause::Or2(i, j) => Step::Or2(at(i), at(j)),
-        Cause::Or3(i, j, k) => Step::Or3(at(i), at(j), at(k)),
+        Cause::Or2(i, j) => Step::Or(Places::of(&[i, j])),
+        Cause::Or3(i, j, k) => Step::Or(Places::of(&[i, j, k])),
+        Cause::OrMany(_, _) => Step::Or(Places::of(reach.many(entry.cause))),
     };
     step.moved(places)
 }

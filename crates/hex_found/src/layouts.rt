@@ -125,7 +125,7 @@ fn push_block(
         if block.pool.is_chosen(place)
             && let Some(step) = block.pool.step(place)
         {
-            lines.push(line_of(layout, step))?;
+            lines.push(line_of(alloc, layout, step)?)?;
         }
     }
     for stone in block.moves.iter() {
@@ -145,16 +145,31 @@ fn push_block(
 }
 
 // A derived line.
-fn line_of(layout: &Layout, step: Step) -> Line {
+fn line_of(alloc: Global, layout: &Layout, step: Step) -> Result<Line, AllocError> {
     let at = |place: usize| layout.derived_number(place);
-    match step {
+    Ok(match step {
         // The edges lie side by side only where the player is joined, and no `adj` says that.
         Step::Adj(End::First, End::Second) => Line::Done,
         Step::Adj(x, y) => Line::Adj(end_of(x), end_of(y)),
         Step::And(i, j) => Line::And(at(i), at(j)),
         Step::Key(i, j) => Line::Key(at(i), at(j)),
-        Step::Or2(i, j) => Line::Or2(at(i), at(j)),
-        Step::Or3(i, j, k) => Line::Or3(at(i), at(j), at(k)),
+        Step::Or(places) => or_of(alloc, layout, places.as_slice())?,
+    })
+}
+
+// An `or` of the lines at these places.
+fn or_of(alloc: Global, layout: &Layout, places: &[u32]) -> Result<Line, AllocError> {
+    let at = |place: u32| layout.derived_number(place as usize);
+    match places {
+        [i, j] => Ok(Line::Or2(at(*i), at(*j))),
+        [i, j, k] => Ok(Line::Or3(at(*i), at(*j), at(*k))),
+        _ => {
+            let mut numbers = Vec::new(alloc);
+            for place in places {
+                numbers.push(at(*place))?;
+            }
+            Ok(Line::OrMany(Numbers::of(numbers)))
+        }
     }
 }
 

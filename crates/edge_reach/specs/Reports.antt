@@ -1,0 +1,20 @@
+-- What a report answers of what it has.
+use Rattle.std.specs.Prelude.{ℕ, List}
+use Rattle.conn_store.specs.declared.entries.Kind.{Kind}
+use Rattle.conn_store.specs.declared.entries.Kind.TheVariants.{Full, Semi}
+use Rattle.edge_reach.specs.declared.entries.Entry.{Entry}
+use Rattle.edge_reach.specs.declared.found.Found.{Found}
+use Rattle.edge_reach.specs.declared.reports.Reach.{Reach}
+
+-- the numbers of the entries between the edges
+abbrev pub edge_numbers : Found → Kind → List ℕ
+edge_numbers found Full = found.edge_full.items
+edge_numbers found Semi = found.edge_semi.items
+
+-- the entries of the report, by their numbers
+abbrev pub entries_of : Reach → List Entry
+entries_of reach = reach.found.entries.items
+
+-- the numbers of its entries between the edges
+abbrev pub numbers_of : Reach → Kind → List ℕ
+numbers_of reach kind = edge_numbers reach.found kind
