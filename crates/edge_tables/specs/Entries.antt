@@ -27,9 +27,9 @@ is_report (Move cell) = false
 is_report Cases = false
 
 -- how much an entry has of what is measured: cells count before lines
-abbrev pub amount_of : Measure → EdgeEntry → ℕ
-amount_of Lines e = e.lines
-amount_of Cells e = members e.carrier MOST_CELLS * 2 ^ 32 + e.lines
+abbrev pub amount_by : Measure → EdgeEntry → ℕ
+amount_by Lines e = e.lines
+amount_by Cells e = members e.carrier MOST_CELLS * 2 ^ 32 + e.lines
 
 -- the entry's carrier lies inside the region: no cell of it is outside
 abbrev pub is_inside : ℕ → EdgeEntry → Bool
@@ -50,18 +50,18 @@ scopes_of tables Black = tables.black
 scopes_of tables White = tables.white
 
 -- a scope's entries of a kind
-abbrev pub entries_in : Scope → Kind → List EdgeEntry
-entries_in scope Full = scope.full.items
-entries_in scope Semi = scope.semi.items
+abbrev pub scope_entries : Scope → Kind → List EdgeEntry
+scope_entries scope Full = scope.full.items
+scope_entries scope Semi = scope.semi.items
 
 -- the same of a scope that may be missing
-abbrev pub entries_at : Option Scope → Kind → List EdgeEntry
-entries_at None kind = []
-entries_at (Some scope) kind = entries_in scope kind
+abbrev pub entries_or_none : Option Scope → Kind → List EdgeEntry
+entries_or_none None kind = []
+entries_or_none (Some scope) kind = scope_entries scope kind
 
 -- the entries of a key, the newest last
 abbrev pub entries_of : Tables → Key → List EdgeEntry
-entries_of tables key = entries_at (get nat_eq (scopes_of tables key.player) key.stones) key.kind
+entries_of tables key = entries_or_none (get nat_eq (scopes_of tables key.player) key.stones) key.kind
 
 -- an entry of the list that lies inside the region, and none of those inside has less
 pub record IsLeast (measure : Measure) (region : ℕ) (es : List EdgeEntry) (e : EdgeEntry)
@@ -69,9 +69,9 @@ pub record IsLeast (measure : Measure) (region : ℕ) (es : List EdgeEntry) (e :
   pub there : Contains es e
   pub inside : is_inside region e ≡ true
   pub least : All (λ (other : EdgeEntry). is_inside region other ≡ true
-      → amount_of measure e ≤ amount_of measure other) es
+      → amount_by measure e ≤ amount_by measure other) es
 
 -- such an entry, or none exactly if none lies inside
-abbrev pub IsLeastOf : Measure → ℕ → List EdgeEntry → Option EdgeEntry → Type 0
-IsLeastOf measure region es None = All (λ (e : EdgeEntry). is_inside region e ≡ false) es
-IsLeastOf measure region es (Some e) = IsLeast measure region es e
+abbrev pub IsLeastInside : Measure → ℕ → List EdgeEntry → Option EdgeEntry → Type 0
+IsLeastInside measure region es None = All (λ (e : EdgeEntry). is_inside region e ≡ false) es
+IsLeastInside measure region es (Some e) = IsLeast measure region es e

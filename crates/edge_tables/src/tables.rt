@@ -3,8 +3,8 @@
 ghost use Rattle.std.specs.Prelude.{◌≡◌, ℕ, [], filter, reverse, IfOk};
 ghost use Rattle.std.specs.List.{list_any};
 ghost use Rattle.hex_cells.specs.Sets.{has};
-ghost use Rattle.edge_tables.specs.Entries.{amount_of, entries_in, entries_of, is_common};
-ghost use Rattle.edge_tables.specs.Entries.{IsLeastOf, is_inside, is_report, scopes_of};
+ghost use Rattle.edge_tables.specs.Entries.{amount_by, scope_entries, entries_of, is_common};
+ghost use Rattle.edge_tables.specs.Entries.{IsLeastInside, is_inside, is_report, scopes_of};
 
 use super::stops::Stop;
 use conn_store::Kind;
@@ -66,7 +66,7 @@ impl EdgeEntry {
 
     /// How much it has of what is measured.
     pub fn amount(&self, measure: Measure) -> u64
-        ensures { result ≡ amount_of measure self.now }
+        ensures { result ≡ amount_by measure self.now }
     {
         let lines = u64::from(self.lines);
         match measure {
@@ -102,7 +102,7 @@ struct Scope {
 
 impl Scope {
     fn list(&self, kind: Kind) -> &[EdgeEntry]
-        ensures { result.now ≡ entries_in self.now kind }
+        ensures { result.now ≡ scope_entries self.now kind }
     {
         match kind {
             Kind::Full => &self.full,
@@ -191,7 +191,7 @@ impl Tables {
 
     /// The entry of the key inside the region that has least, the newest of several.
     pub fn least(&self, key: &Key, region: CellSet, measure: Measure) -> Option<EdgeEntry>
-        ensures { IsLeastOf measure region (entries_of self.now key.now) result }
+        ensures { IsLeastInside measure region (entries_of self.now key.now) result }
     {
         let entries = self.entries(key);
         let mut best: Option<EdgeEntry> = None;

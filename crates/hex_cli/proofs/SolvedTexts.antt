@@ -7,14 +7,14 @@ use Rattle.hex_solve.specs.Solved.{OpenIsFull, TooLongIsCounted, TooLongNeedsMan
 use Rattle.hex_solve.specs.Solved.{UnknownNeedsMore, WinnerWins, WonIsCertified, WonIsShort}
 use Rattle.hex_solve.specs.declared.answers.Solved.{Solved}
 use Rattle.hex_solve.specs.declared.answers.Solved.TheVariants.{Won, Unknown, TooLong, Open}
-use Rattle.hex_cli.specs.SolveTexts.{IsSolverAnswer, next_mover}
+use Rattle.hex_cli.specs.SolveTexts.{MayBeAnswered, next_mover}
 
 -- what the solver promises of each answer
 pub solved_by : (hsearch : Bool) (budget : ℕ) (p : Position) (mover : Colour) (solved : Solved)
     → WinnerWins p mover solved → WonIsCertified p mover solved → WonIsShort p mover hsearch solved
     → UnknownNeedsMore p mover hsearch budget solved → TooLongNeedsMany p mover solved
     → TooLongIsCounted p mover solved → OpenIsFull p solved
-    → IsSolverAnswer hsearch budget p mover solved
+    → MayBeAnswered hsearch budget p mover solved
 solved_by hsearch budget p mover (Won winner cert) wins won short unknown long counted filled
     = (wins, won, short)
 solved_by hsearch budget p mover (Unknown spent own) wins won short unknown long counted filled =
@@ -25,8 +25,8 @@ solved_by hsearch budget p mover (Open full) wins won short unknown long counted
 
 pub solved_of_game : (hsearch : Bool) (budget : ℕ) (game : GameData) (p : Position) (mover : Colour)
     (solved : Solved) → p ≡ board_of game → mover ≡ next_mover game.steps
-    → IsSolverAnswer hsearch budget p mover solved
-    → IsSolverAnswer hsearch budget (board_of game) (next_mover game.steps) solved
+    → MayBeAnswered hsearch budget p mover solved
+    → MayBeAnswered hsearch budget (board_of game) (next_mover game.steps) solved
 solved_of_game hsearch budget game p mover solved board next s =
-    subst (λ (q : Position). IsSolverAnswer hsearch budget q (next_mover game.steps) solved) board
-    (subst (λ (m : Colour). IsSolverAnswer hsearch budget p m solved) next s)
+    subst (λ (q : Position). MayBeAnswered hsearch budget q (next_mover game.steps) solved) board
+    (subst (λ (m : Colour). MayBeAnswered hsearch budget p m solved) next s)

@@ -50,15 +50,15 @@ CanBeWritten (Open full) = Unit {0}
 -- bits: more than one may have, at most two for each of these positions, and then more cells are
 -- empty than a few. If nobody is told to win, the budget is spent, and the search needs more; or a
 -- full board keeps the stones of p, and nobody is joined on it.
-abbrev pub IsSolverAnswer : Bool → ℕ → Position → Colour → Solved → Type 0
-IsSolverAnswer hsearch budget p mover (Won winner cert) = Wins winner p mover
+abbrev pub MayBeAnswered : Bool → ℕ → Position → Colour → Solved → Type 0
+MayBeAnswered hsearch budget p mover (Won winner cert) = Wins winner p mover
     × Certifies p mover winner cert × (hsearch ≡ false → length cert.lines ≤ 2 * need p mover)
-IsSolverAnswer hsearch budget p mover (Unknown spent own) =
+MayBeAnswered hsearch budget p mover (Unknown spent own) =
     (spent ≡ budget) × (budget < need p mover) × IsOwnReport p mover hsearch own
-IsSolverAnswer hsearch budget p mover (TooLong winner lines) = Wins winner p mover
+MayBeAnswered hsearch budget p mover (TooLong winner lines) = Wins winner p mover
     × (MOST_LINES < lines) × (lines ≤ 2 * need p mover) × (few_cells < empty_count p)
     × (lines < 2 ^ 64 - 1 → lines ≡ lines_needed winner p mover)
-IsSolverAnswer hsearch budget p mover (Open full) = IsOpenBoard p full
+MayBeAnswered hsearch budget p mover (Open full) = IsOpenBoard p full
 
 -- a player is joined on the game's board, and the text says who
 abbrev pub IsOverText : GameData → List ℕ → Type 0
@@ -69,7 +69,7 @@ IsOverText game text = (winner : Colour) × (winner_of (board_of game) ≡ Some 
 abbrev pub IsSolvedText : Bool → ℕ → GameData → List ℕ → Type 0
 IsSolvedText hsearch budget game text =
     (solved : Solved) × (winner_of (board_of game) ≡ None)
-    × IsSolverAnswer hsearch budget (board_of game) (next_mover game.steps) solved
+    × MayBeAnswered hsearch budget (board_of game) (next_mover game.steps) solved
     × (text ≡ solved_text solved)
 
 -- Mode solve: the text tells who wins the position of the game of which the bytes are a record; or

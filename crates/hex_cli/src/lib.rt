@@ -67,7 +67,7 @@
 //! - The mover of mode `solve` is the player who didn't make the last step, and Black before any.
 //!   The count of stones doesn't tell him: a record may set stones up, a swap changes no count, and
 //!   a player may move twice. A decided board is answered by `over`. What is said of a position is
-//!   any answer that meets the solver's clauses (`IsSolverAnswer`), so it names no order of the
+//!   any answer that meets the solver's clauses (`MayBeAnswered`), so it names no order of the
 //!   search.
 //! - A body that goes on after a fault and answers that fault's status at the end meets the clauses
 //!   on counts, which say that a count rose and not how often. The test `faults_each` of
@@ -80,7 +80,6 @@ mod kinds;
 mod playing;
 mod serving;
 mod single_turns;
-mod sizes;
 mod solutions;
 mod top;
 mod whole_inputs;

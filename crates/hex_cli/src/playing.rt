@@ -8,7 +8,6 @@ ghost use Rattle.hex_cli.specs.Modes.{engine_options};
 ghost use Rattle.hex_cli.specs.Playing.{HasGoodTurns};
 ghost use Rattle.hex_devices.specs.Statuses.{stop_in};
 
-use crate::sizes::board_size;
 use hex_devices::{Devices, End};
 use hex_io::{INPUT_LIMIT, Link, Shelf};
 use hex_plan::{Archive, Means};
@@ -33,7 +32,7 @@ pub fn play<L: Link, F: Shelf, A: Archive, R: Threads + Sync, G: Gate + Sync>(
         alloc,
         devices,
         &engine_options(options),
-        board_size(options.size),
+        options.size,
         INPUT_LIMIT,
     );
     End::of(outcome)

@@ -9,7 +9,6 @@ ghost use Rattle.hex_cli.specs.Modes.{HandsInBy, bench_means, mode_options};
 ghost use Rattle.hex_cli.specs.Runs.{IsUnfetched};
 ghost use Rattle.hex_devices.specs.Statuses.{stop_in};
 
-use crate::sizes::board_size;
 use hex_devices::{Devices, End};
 use hex_io::{Link, Shelf};
 use hex_plan::{Archive, Means};
@@ -44,7 +43,7 @@ fn mode_options(options: &Options) -> ModeOptions
     ensures ranges { AreInRange result.knobs }
 {
     ModeOptions {
-        size: board_size(options.size),
+        size: options.size,
         knobs: options.knobs,
         steps: options.steps,
         means: bench_means(options),

@@ -1,8 +1,9 @@
 //! From the words of a command line to its options.
 
 ghost use Rattle.std.specs.Prelude.{◌≡◌, ◌≢◌, ◌↔◌, IfOk, IfSome, IsTrue, Some, []};
-ghost use Rattle.std.specs.Prelude.{option_map};
+ghost use Rattle.std.specs.Prelude.{ℕ, option_map};
 ghost use Rattle.clap.specs.Words.{first_value, found_of};
+ghost use Rattle.option_words.specs.Values.{IsNumberFrom};
 ghost use Rattle.hexd_args.specs.Reading.{WellFormed};
 ghost use Rattle.tree_words.specs.declared.settings.Knobs.{Knobs};
 ghost use Rattle.hexd_args.specs.Values.{OptionsInRange, AreKnobs, AreOptions};
@@ -16,6 +17,7 @@ use crate::table::{
 };
 use crate::{Memory, Options};
 use clap::ArgMatches;
+use hex_cells::Size;
 use hex_io::Word;
 use option_words::{find, found_long_number, found_number, switch};
 use std::alloc::Global;
@@ -74,7 +76,7 @@ fn with_trace(matches: &ArgMatches<'_>, trace: Option<Word>) -> Option<Options>
 {
     Some(Options {
         mode: mode(matches.get_str("word"))?,
-        size: found_number(matches, SIZE)?,
+        size: size(matches)?,
         knobs: knobs(matches)?,
         hsearch: switch(matches.get_str(HSEARCH.0))?,
         solve: found_number(matches, SOLVE)?,
@@ -83,6 +85,14 @@ fn with_trace(matches: &ArgMatches<'_>, trace: Option<Word>) -> Option<Options>
         budget: found_long_number(matches, BUDGET)?,
         trace,
     })
+}
+
+// The size of the first board; none if its value is not as its option wants it.
+fn size(matches: &ArgMatches<'_>) -> Option<Size>
+    ensures { (n : ℕ) → (result ≡ Some n)
+        ↔ IsNumberFrom SIZE.2 SIZE.3 (first_value (found_of matches.now) SIZE.0.now) n }
+{
+    Size::of(found_number(matches, SIZE)?)
 }
 
 // The knobs of a search; none if a value is not as its option wants it.

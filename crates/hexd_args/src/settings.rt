@@ -1,5 +1,6 @@
 //! What a command line asks for.
 
+use hex_cells::Size;
 use hex_io::Word;
 use tree_words::Knobs;
 
@@ -32,7 +33,7 @@ pub struct Options {
     /// What the program does.
     pub mode: Mode,
     /// `SIZE`.
-    pub size: u32,
+    pub size: Size,
     /// `WORKERS`, `PLAYOUTS`, `SEED`, `WORDS`, `EXPAND` and `WEIGHT`.
     pub knobs: Knobs,
     /// Whether `HSEARCH` is on.

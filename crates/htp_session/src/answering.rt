@@ -95,10 +95,10 @@ fn say_quietly(
         out.old.items out.new.items) }
     ensures err { OnErr result (out.new.items ≡ out.old.items) }
 {
-    let id = id_text(alloc, request.id)?;
     let Some(answer) = engine.quiet_line(&request)? else {
         return Ok(Said::Open(request));
     };
+    let id = id_text(alloc, request.id)?;
     Ok(Said::Whole(push_answer(out, &id, &answer)?))
 }
 

@@ -15,7 +15,7 @@ use Rattle.arena_rule.specs.IsView.{IsView}
 use Rattle.tree_rule.specs.Seats.{TreeData, SeatData, IsOf}
 
 -- the seat is of the tree, stands for one worker, and has drawn nothing
-pub record IsNew (tree : TreeData) (seat : SeatData) : Type 0 where
+pub record IsUndrawn (tree : TreeData) (seat : SeatData) : Type 0 where
   pub own : IsOf tree seat
   pub width : seat.view.width ≡ 1
   pub nothing : HasDrawnNothing seat.view
@@ -75,8 +75,8 @@ pub record TwoViews : Type 0 where
   pub first : SeatView
   pub second : SeatView
 
-abbrev pub views_of : SeatData → SeatData → TwoViews
-views_of a b = record { first = a.view; second = b.view }
+abbrev pub both_views : SeatData → SeatData → TwoViews
+both_views a b = record { first = a.view; second = b.view }
 
 -- the view of the seat that makes the step
 abbrev pub stepping : TwoViews → ScriptLine → SeatView

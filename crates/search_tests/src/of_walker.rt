@@ -3,7 +3,7 @@
 ghost use Rattle.std.specs.Prelude.{◌≡◌};
 ghost use Rattle.walker.specs.Belongs.{Belongs};
 ghost use Rattle.tree_rule.specs.Seats.{IsOf};
-ghost use Rattle.search_tests.specs.Scripts.{IsNew};
+ghost use Rattle.search_tests.specs.Scripts.{IsUndrawn};
 
 use super::of_sim_run::shape_of;
 use std::test::Fail;
@@ -17,7 +17,7 @@ type Lines<'a> = &'a [(Op, u64)];
 // A worker who has drawn nothing, for a seat that stands for him alone.
 fn new_walker(tree: &Tree, seat: &TreeSeat, shape: &Shape) -> Walker
     requires shape { tree.now.shape ≡ shape.now }
-    requires fresh { IsNew tree.now seat.now }
+    requires fresh { IsUndrawn tree.now seat.now }
     ensures belongs { Belongs result seat.now.view }
 {
     let walker = Walker::new(shape);

@@ -163,7 +163,7 @@ fn read(alloc: Global, line: &str) -> Result<CommandLine, Memory> {
 
 fn numbers(options: &Options) -> [u64; 12] {
     [
-        options.size as u64,
+        options.size.get() as u64,
         options.knobs.workers as u64,
         options.knobs.playouts as u64,
         options.knobs.seed,
