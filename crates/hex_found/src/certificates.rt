@@ -80,7 +80,9 @@ fn is_writable(cert: &Cert) -> bool
     cert.version == version_for(lines)
         && cert.entry <= MOST_NUMBER
         && lines.len() <= MOST_LINES
-        && lines.iter().all(|line| is_line_of(cert.version, line, size))
+        && lines
+            .iter()
+            .all(|line| is_line_of(cert.version, line, size))
 }
 
 // Whether the line is one of that version, its cells lie on the board, and its numbers are not too
