@@ -35,5 +35,5 @@ returns c = elim c.match-line.branch [
   | in-Done+in_ok-given-in-Done w ↦ same_line c.args.self.now _ _ _ _ w.in-Done.is w.given-is w.in_ok-given-in-Done.ensures
   | in-Move+in_ok-given-in-Move w ↦ same_line c.args.self.now _ _ _ _ w.in-Move.is w.given-is w.in_ok-given-in-Move.ensures
   | in-Cases+in_ok-given-in-Cases w ↦ same_line c.args.self.now _ _ _ _
-      (w.in-Cases.is ∙ ap Cases (sym w.as_slice.ensures)) w.given-is w.in_ok-given-in-Cases.ensures
+      (w.in-Cases.is ∙ ap Cases (sym w.as_slice-in-Cases.ensures)) w.given-is w.in_ok-given-in-Cases.ensures
 ]
