@@ -133,12 +133,11 @@ many_means v n numbers s few e =
     let q = cond_some
     (eqb v LATEST_VERSION && leb LEAST_MANY (length numbers) && leb (length numbers) MOST_CASES)
     (Derivation (OrMany numbers)) s e in
-    let first = and_parts (eqb v LATEST_VERSION)
-    (leb LEAST_MANY (length numbers) && leb (length numbers) MOST_CASES) q.0 in
-    let both = and_parts (leb LEAST_MANY (length numbers)) (leb (length numbers) MOST_CASES)
-    first.1 in
+    let both = and_parts (eqb v LATEST_VERSION && leb LEAST_MANY (length numbers))
+    (leb (length numbers) MOST_CASES) q.0 in
+    let first = and_parts (eqb v LATEST_VERSION) (leb LEAST_MANY (length numbers)) both.0 in
     subst (Means v n (codes "or") (map decimal numbers)) q.1 (
-      ((Decides-eqb v LATEST_VERSION).0 first.0, leb_says LEAST_MANY (length numbers) both.0, leb_says (length numbers) MOST_CASES both.1, few),
+      ((Decides-eqb v LATEST_VERSION).0 first.0, leb_says LEAST_MANY (length numbers) first.1, leb_says (length numbers) MOST_CASES both.1, few),
       refl,
     )
 

@@ -9,11 +9,12 @@ use super::{LATEST_VERSION, Line, SECOND_VERSION};
 pub fn version_for(lines: &[Line]) -> u32
     ensures { result ≡ version_for lines.now }
 {
-    if lines.iter().any(is_or_many) {
-        LATEST_VERSION
-    } else {
-        SECOND_VERSION
+    'lines: for line in lines {
+        if is_or_many(line) {
+            return LATEST_VERSION;
+        }
     }
+    SECOND_VERSION
 }
 
 // Whether the line is an `or` of four or more entries.
