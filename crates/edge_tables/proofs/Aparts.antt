@@ -4,7 +4,7 @@ use Rattle.std.specs.Prelude.{remove}
 use Rattle.std.proofs.lemmas.List.Edits.{get_or-remove_below, get_or-remove_above, length-remove}
 use Rattle.std.proofs.lemmas.Bool.{cases_lt}
 use Rattle.hex_cells.specs.Sets.{has}
-use Rattle.edge_tables.specs.Covers.{HasAt, AreApart}
+use Rattle.edge_tables.specs.Covers.{HasAt, ShareNoCell}
 use Rattle.edge_tables.specs.declared.covers.Choice.{Choice}
 
 -- a cell of the region that all these carriers have is left
@@ -21,7 +21,7 @@ module _ (list : List Choice) (region : ℕ) where
 
   -- where nothing is left, the carriers at the other places are apart
   pub apart_without : (places : List ℕ) (but left : ℕ) → IsLeftBut places but (length places) left
-      → ((k : ℕ) → has left k ≡ false) → but < length places → AreApart list region (remove places but)
+      → ((k : ℕ) → has left k ≡ false) → but < length places → ShareNoCell list region (remove places but)
   apart_without places but left old none within k r all =
       true≢false (sym (old k r (λ j below other. at j below other (cases_lt j but))) ∙ none k)
     where

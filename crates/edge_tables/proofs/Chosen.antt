@@ -5,32 +5,32 @@ use Rattle.std.proofs.lemmas.Option.{slice_get_past, slice_get_read}
 use Rattle.std.proofs.lemmas.List.Folds.{list_any-append}
 use Rattle.std.proofs.lemmas.List.Sums.{sum_by-append}
 use Rattle.hex_cells.specs.Sets.{has}
-use Rattle.edge_tables.specs.Covers.{chosen_of, is_covered, line_sum}
+use Rattle.edge_tables.specs.Covers.{choices_at, is_covered, line_sum}
 use Rattle.edge_tables.specs.declared.covers.Choice.{Choice}
 
 module _ (list : List Choice) (places : List ℕ) (i d : ℕ) (h : i < length places) where
-  pub chosen_more : chosen_of list (take (i + 1) places)
-      ≡ chosen_of list (take i places) ++ option_to_list (slice_get list (get_or places i d))
+  pub chosen_more : choices_at list (take (i + 1) places)
+      ≡ choices_at list (take i places) ++ option_to_list (slice_get list (get_or places i d))
   chosen_more =
-      ap (chosen_of list) (take_more places i d h)
+      ap (choices_at list) (take_more places i d h)
       ∙ sym (flat_map_more (λ p. option_to_list (slice_get list p)) [] (take i places) (get_or places i d))
 
 -- a place of the list adds its choice, and a place past its end nothing
 pub more_some : (list : List Choice) (places : List ℕ) (i : ℕ) (c : Choice) → i < length places
     → get_or places i 0 < length list → c ≡ get_or list (get_or places i 0) c
-    → chosen_of list (take (i + 1) places) ≡ chosen_of list (take i places) ++ c ∷ []
+    → choices_at list (take (i + 1) places) ≡ choices_at list (take i places) ++ c ∷ []
 more_some list places i c h within is =
     chosen_more list places i 0 h
-    ∙ ap (λ o. chosen_of list (take i places) ++ option_to_list o)
+    ∙ ap (λ o. choices_at list (take i places) ++ option_to_list o)
     (slice_get_read list (length list) (get_or places i 0) c refl within is)
 
 pub more_none : (list : List Choice) (places : List ℕ) (i : ℕ) → i < length places
-    → length list ≤ get_or places i 0 → chosen_of list (take (i + 1) places) ≡ chosen_of list (take i places)
+    → length list ≤ get_or places i 0 → choices_at list (take (i + 1) places) ≡ choices_at list (take i places)
 more_none list places i h past =
     chosen_more list places i 0 h
-    ∙ ap (λ o. chosen_of list (take i places) ++ option_to_list o)
+    ∙ ap (λ o. choices_at list (take i places) ++ option_to_list o)
     (slice_get_past list (get_or places i 0) past)
-    ∙ append-nil (chosen_of list (take i places))
+    ∙ append-nil (choices_at list (take i places))
 
 or_false : (b : Bool) → (b || false) ≡ b
 or_false true = refl

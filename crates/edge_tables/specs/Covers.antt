@@ -4,15 +4,15 @@ use Rattle.std.specs.Prelude.{slice_get, option_to_list, sum_by}
 use Rattle.std.specs.List.{flat_map, list_any}
 use Rattle.hex_cells.specs.Sets.{has}
 use Rattle.edge_tables.specs.declared.covers.Choice.{Choice}
-use Rattle.edge_tables.specs.declared.tables.EdgeEntry.{EdgeEntry}
+use Rattle.edge_tables.specs.declared.entries.EdgeEntry.{EdgeEntry}
 
 -- an entry's carrier and lines
-abbrev pub choice_of : EdgeEntry → Choice
-choice_of e = record { carrier = e.carrier; lines = e.lines }
+abbrev pub entry_choice : EdgeEntry → Choice
+entry_choice e = record { carrier = e.carrier; lines = e.lines }
 
 -- the choices at these places of a list
-abbrev pub chosen_of : List Choice → List ℕ → List Choice
-chosen_of list places = flat_map (λ p. option_to_list (slice_get list p)) places
+abbrev pub choices_at : List Choice → List ℕ → List Choice
+choices_at list places = flat_map (λ p. option_to_list (slice_get list p)) places
 
 -- one of the carriers has cell k
 abbrev pub is_covered : List Choice → ℕ → Bool
@@ -27,10 +27,10 @@ abbrev pub HasAt : List Choice → ℕ → ℕ → Type 0
 HasAt list k p = IfSome (slice_get list p) (λ (c : Choice). has c.carrier k ≡ true)
 
 -- no cell of the region is of the carriers at all these places
-abbrev pub AreApart : List Choice → ℕ → List ℕ → Type 0
-AreApart list region places = (k : ℕ) → has region k ≡ true → ¬ (All (HasAt list k) places)
+abbrev pub ShareNoCell : List Choice → ℕ → List ℕ → Type 0
+ShareNoCell list region places = (k : ℕ) → has region k ≡ true → ¬ (All (HasAt list k) places)
 
 -- places of the list, whose carriers have no cell of the region in common if there are places
 pub record IsCover (list : List Choice) (region : ℕ) (places : List ℕ) : Type 0 where
   pub within : All (λ p. p < length list) places
-  pub apart : 0 < length places → AreApart list region places
+  pub apart : 0 < length places → ShareNoCell list region places

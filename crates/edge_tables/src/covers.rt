@@ -4,10 +4,10 @@
 ghost use Rattle.std.specs.Prelude.{◌≡◌, ◌≢◌, ℕ, ◌+◌, ◌-◌, ◌^◌, ◌<◌, map, min, length, remove};
 ghost use Rattle.std.specs.Prelude.{vec_len, IfOk, IfSome, IsTrue};
 ghost use Rattle.hex_cells.specs.Sets.{has};
-ghost use Rattle.edge_tables.specs.Covers.{AreApart, IsCover, choice_of, chosen_of};
+ghost use Rattle.edge_tables.specs.Covers.{ShareNoCell, IsCover, entry_choice, choices_at};
 ghost use Rattle.edge_tables.specs.Covers.{is_covered, line_sum};
 
-use super::tables::EdgeEntry;
+use super::entries::EdgeEntry;
 use hex_cells::CellSet;
 use std::alloc::{AllocError, Global};
 
@@ -43,7 +43,7 @@ pub struct Choice {
 
 /// The carriers of these entries with their lines.
 pub fn choices_of(alloc: Global, entries: &[EdgeEntry]) -> Result<Vec<Choice>, AllocError>
-    ensures { IfOk result (λ list. list.items ≡ map choice_of entries.now) }
+    ensures { IfOk result (λ list. list.items ≡ map entry_choice entries.now) }
 {
     let mut list = Vec::new(alloc);
     for entry in entries {
@@ -90,8 +90,8 @@ pub fn cover(
 
 /// The cells of these carriers together, and a line more than they cost.
 pub fn together(list: &[Choice], chosen: &[usize]) -> (CellSet, u32)
-    ensures cells { (k : ℕ) → has result.0 k ≡ is_covered (chosen_of list.now chosen.now) k }
-    ensures lines { result.1 ≡ min (1 + line_sum (chosen_of list.now chosen.now)) (2 ^ 32 - 1) }
+    ensures cells { (k : ℕ) → has result.0 k ≡ is_covered (choices_at list.now chosen.now) k }
+    ensures lines { result.1 ≡ min (1 + line_sum (choices_at list.now chosen.now)) (2 ^ 32 - 1) }
 {
     let mut union = CellSet::none();
     let mut lines = 1u32;
@@ -185,7 +185,7 @@ fn thin(list: &[Choice], region: CellSet, chosen: &mut Vec<usize>)
 // The place, among those that are chosen, of the one with the most lines that is not needed.
 fn longest_needless(list: &[Choice], region: CellSet, chosen: &[usize]) -> Option<usize>
     ensures { IfSome result (λ place. place < length chosen.now
-        → AreApart list.now region (remove chosen.now place)) }
+        → ShareNoCell list.now region (remove chosen.now place)) }
 {
     let mut best = None;
     let mut most = 0u32;
@@ -205,7 +205,7 @@ fn longest_needless(list: &[Choice], region: CellSet, chosen: &[usize]) -> Optio
 // Whether the others have no cell in common.
 fn is_needless(list: &[Choice], region: CellSet, chosen: &[usize], needless: usize) -> bool
     ensures { IsTrue result → needless < length chosen.now
-        → AreApart list.now region (remove chosen.now needless) }
+        → ShareNoCell list.now region (remove chosen.now needless) }
 {
     let mut left = region;
     for place in 0..chosen.len() {
