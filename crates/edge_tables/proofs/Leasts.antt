@@ -2,8 +2,8 @@
 use Rattle.std.proofs.Common.{◌≡◌, ℕ, Bool, true, false, ◌-◌, ◌^◌, ◌<◌, ◌≤◌, List, [], ◌∷◌, ◌++◌, Option, None, Some, All, refl, sym, ◌∙◌, true≢false, arith}
 use Rattle.std.proofs.lemmas.List.Elements.{All-push, All-weaker, Contains-push, Contains-append_left}
 use Rattle.edge_tables.specs.Entries.{amount_by, is_inside, IsLeastInside}
-use Rattle.edge_tables.specs.declared.tables.EdgeEntry.{EdgeEntry}
-use Rattle.edge_tables.specs.declared.tables.Measure.{Measure}
+use Rattle.edge_tables.specs.declared.entries.EdgeEntry.{EdgeEntry}
+use Rattle.edge_tables.specs.declared.entries.Measure.{Measure}
 
 -- no entry that has more than this is better
 abbrev pub limit_of : Measure → Option EdgeEntry → ℕ

@@ -4,7 +4,7 @@ use Rattle.std.specs.Prelude.{slice_get, option_to_list, sum_by}
 use Rattle.std.specs.List.{flat_map, list_any}
 use Rattle.hex_cells.specs.Sets.{has}
 use Rattle.edge_tables.specs.declared.covers.Choice.{Choice}
-use Rattle.edge_tables.specs.declared.tables.EdgeEntry.{EdgeEntry}
+use Rattle.edge_tables.specs.declared.entries.EdgeEntry.{EdgeEntry}
 
 -- an entry's carrier and lines
 abbrev pub entry_choice : EdgeEntry → Choice

@@ -1,23 +1,26 @@
 -- The entries of tables, and which of them lie inside a region.
 use Rattle.std.specs.Prelude.{◌≡◌, ℕ, Bool, true, false, ◌+◌, ◌*◌, ◌^◌, ◌≤◌, ◌==◌, ◌&&◌, ◌||◌}
-use Rattle.std.specs.Prelude.{not, List, [], Option, None, Some, nat_eq, All, Contains}
-use Rattle.std.specs.List.{list_all}
+use Rattle.std.specs.Prelude.{◌≢◌, ◌∷◌, ◌++◌, if◌then◌else◌, not, List, [], Option, None, Some}
+use Rattle.std.specs.Prelude.{nat_eq, nat_le, All, Contains, filter, fold, map}
+use Rattle.std.specs.Prelude.{slice_get, slice_set}
+use Rattle.std.specs.List.{list_all, list_any}
+use Rattle.std.specs.Option.{option_map_or}
 use Rattle.std.specs.declared.hash.FoldHasher.{FoldHasher}
 use Rattle.std.specs.declared.hash.BuildHasherDefault.{BuildHasherDefault}
-use Rattle.indexmap.specs.IndexMap.{IndexMap, get}
+use Rattle.indexmap.specs.IndexMap.{IndexMap, get, values}
 use Rattle.hex_cells.specs.Sets.{has, members, without_cells}
 use Rattle.hex_cells.specs.declared.board_size.TheConstants.{MOST_CELLS}
 use Rattle.hex_cells.specs.declared.colours.Colour.{Colour}
 use Rattle.hex_cells.specs.declared.colours.Colour.TheVariants.{Black, White}
 use Rattle.conn_store.specs.declared.entries.Kind.{Kind}
 use Rattle.conn_store.specs.declared.entries.Kind.TheVariants.{Full, Semi}
-use Rattle.edge_tables.specs.declared.tables.EdgeEntry.{EdgeEntry}
-use Rattle.edge_tables.specs.declared.tables.Key.{Key}
-use Rattle.edge_tables.specs.declared.tables.Measure.{Measure}
-use Rattle.edge_tables.specs.declared.tables.Measure.TheVariants.{Lines, Cells}
-use Rattle.edge_tables.specs.declared.tables.Origin.{Origin}
-use Rattle.edge_tables.specs.declared.tables.Origin.TheVariants.{Report, Move, Cases}
-use Rattle.edge_tables.specs.declared.tables.Scope.{Scope}
+use Rattle.edge_tables.specs.declared.entries.EdgeEntry.{EdgeEntry}
+use Rattle.edge_tables.specs.declared.entries.Key.{Key}
+use Rattle.edge_tables.specs.declared.entries.Measure.{Measure}
+use Rattle.edge_tables.specs.declared.entries.Measure.TheVariants.{Lines, Cells}
+use Rattle.edge_tables.specs.declared.entries.Origin.{Origin}
+use Rattle.edge_tables.specs.declared.entries.Origin.TheVariants.{Report, Move, Cases}
+use Rattle.edge_tables.specs.declared.scopes.Scope.{Scope}
 use Rattle.edge_tables.specs.declared.tables.Tables.{Tables}
 
 -- it came by a report
@@ -59,9 +62,13 @@ abbrev pub entries_or_none : Option Scope → Kind → List EdgeEntry
 entries_or_none None kind = []
 entries_or_none (Some scope) kind = scope_entries scope kind
 
+-- the entries of a kind for these stones, among a player's scopes
+abbrev pub entries_among : Scopes → ℕ → Kind → List EdgeEntry
+entries_among scopes stones kind = entries_or_none (get nat_eq scopes stones) kind
+
 -- the entries of a key, the newest last
 abbrev pub entries_of : Tables → Key → List EdgeEntry
-entries_of tables key = entries_or_none (get nat_eq (scopes_of tables key.player) key.stones) key.kind
+entries_of tables key = entries_among (scopes_of tables key.player) key.stones key.kind
 
 -- an entry of the list that lies inside the region, and none of those inside has less
 pub record IsLeast (measure : Measure) (region : ℕ) (es : List EdgeEntry) (e : EdgeEntry)
@@ -75,3 +82,57 @@ pub record IsLeast (measure : Measure) (region : ℕ) (es : List EdgeEntry) (e :
 abbrev pub IsLeastInside : Measure → ℕ → List EdgeEntry → Option EdgeEntry → Type 0
 IsLeastInside measure region es None = All (λ (e : EdgeEntry). is_inside region e ≡ false) es
 IsLeastInside measure region es (Some e) = IsLeast measure region es e
+
+-- An entry makes the other needless: its carrier lies inside the other's, and it has at most twice
+-- as many lines, or if the carriers are equal at most as many.
+abbrev pub makes_needless : EdgeEntry → EdgeEntry → Bool
+makes_needless e other = if e.carrier == other.carrier then nat_le e.lines other.lines
+    else (is_inside other.carrier e && nat_le e.lines (2 * other.lines))
+
+-- those of the entries that this one doesn't make needless, and it as the newest
+abbrev pub newest_beside : EdgeEntry → List EdgeEntry → List EdgeEntry
+newest_beside e es = filter (λ other. not (makes_needless e other)) es ++ e ∷ []
+
+-- the same, or the entries as they are if one of them makes this one needless
+abbrev pub with_newest : EdgeEntry → List EdgeEntry → List EdgeEntry
+with_newest e es = if list_any (λ other. makes_needless other e) es then es else newest_beside e es
+
+-- the entries after each of the new ones was put beside them in turn
+abbrev pub with_each : List EdgeEntry → List EdgeEntry → List EdgeEntry
+with_each news es = fold (λ done e. with_newest e done) es news
+
+-- the entries, where that at a place has this number of lines
+abbrev pub with_lines_at : ℕ → ℕ → List EdgeEntry → List EdgeEntry
+with_lines_at place lines es =
+    option_map_or (λ e. slice_set es place (record e { lines = lines })) (slice_get es place) es
+
+-- two scopes differ at most in their entries of this kind
+abbrev pub KeepsOther : Kind → Scope → Scope → Type 0
+KeepsOther kind old new = (k : Kind) → k ≢ kind → scope_entries new k ≡ scope_entries old k
+
+-- a player's scopes, before and after, differ at most in what is of this kind for these stones
+abbrev pub AgreeAside : ℕ → Kind → Scopes → Scopes → Type 0
+AgreeAside stones kind old new = (s : ℕ) (k : Kind) → (s ≡ stones → k ≢ kind)
+    → entries_among new s k ≡ entries_among old s k
+
+-- two tables differ at most in the entries of this key
+abbrev pub AgreeBut : Key → Tables → Tables → Type 0
+AgreeBut key old new = (k : Key) → k ≢ key → entries_of new k ≡ entries_of old k
+
+-- two tables differ at most in the entries of this player
+abbrev pub AgreeOnOther : Colour → Tables → Tables → Type 0
+AgreeOnOther player old new = (k : Key) → k.player ≢ player → entries_of new k ≡ entries_of old k
+
+-- the entries of a key, after those of a scope with its stones are put beside them
+abbrev pub with_scope : Key → List EdgeEntry → Scope → List EdgeEntry
+with_scope key es scope =
+    if scope.stones == key.stones then with_each (scope_entries scope key.kind) es else es
+
+-- the tables have of this player what they had, after these scopes were put in turn
+abbrev pub ArePut : Colour → List Scope → Tables → Tables → Type 0
+ArePut player scopes old new = (key : Key) → key.player ≡ player
+    → entries_of new key ≡ fold (with_scope key) (entries_of old key) scopes
+
+-- the stones that each scope names
+abbrev pub scope_stones : Scopes → List ℕ
+scope_stones scopes = map (λ (scope : Scope). scope.stones) (values scopes)

@@ -7,7 +7,7 @@ ghost use Rattle.hex_cells.specs.Sets.{has};
 ghost use Rattle.edge_tables.specs.Covers.{ShareNoCell, IsCover, entry_choice, choices_at};
 ghost use Rattle.edge_tables.specs.Covers.{is_covered, line_sum};
 
-use super::tables::EdgeEntry;
+use super::entries::EdgeEntry;
 use hex_cells::CellSet;
 use std::alloc::{AllocError, Global};
 

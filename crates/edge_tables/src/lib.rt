@@ -11,20 +11,25 @@
 //! an entry inside a region ([`Tables::has`]), which is best ([`Tables::least`]), and what all have
 //! in common ([`Tables::common`]). [`cover`] picks the cases of a full entry.
 //!
-//! **What is proved.** That each call is safe and ends, and what a reading call answers of the
-//! entries that are there (`entries_of`, specs/Entries.antt): [`Tables::entries`] those of a key,
-//! [`Tables::has`] whether one lies inside the region, [`Tables::list`] exactly these, the newest
-//! first, [`Tables::common`] exactly the cells of the region that these have in common, and
-//! [`Tables::least`] one of these such that none has less, or `None` exactly if there is none. New
-//! tables have none, and a full table stays as it was. The places of a [`cover`] are places of the
-//! list, not one alone, and its carriers have no cell of the region in common; [`choices_of`] and
-//! [`together`] are exact. So are [`EdgeEntry::amount`] and [`EdgeEntry::is_reported`]. Nothing
-//! says that an entry is true: a certificate that is made of them is checked.
+//! **What is proved.** That each call is safe and ends, what a reading call answers of the entries
+//! that are there (`entries_of`, specs/Entries.antt), and what is there after a writing one.
+//! [`Tables::entries`] answers those of a key, [`Tables::has`] whether one lies inside the region,
+//! [`Tables::list`] exactly these, the newest first, [`Tables::common`] exactly the cells of the
+//! region that these have in common, and [`Tables::least`] one of these such that none has less, or
+//! `None` exactly if there is none. New tables have none. [`Tables::put`] leaves the entries of
+//! each other key, and of its own key all but those that the new entry makes needless, with it as
+//! the newest, or all as they are if one of them makes it needless (`with_newest`).
+//! [`Tables::put_all`] does so with each entry of each scope (`ArePut`), and leaves the entries of
+//! the other player. [`Tables::set_lines`] changes the lines of one entry, and nothing else. A full
+//! table stays as it was. The places of a [`cover`] are places of the list, not one alone, and its
+//! carriers have no cell of the region in common; [`choices_of`] and [`together`] are exact. So are
+//! [`EdgeEntry::amount`] and [`EdgeEntry::is_reported`]. Nothing says that an entry is true: a
+//! certificate that is made of them is checked.
 //!
-//! **What is only tested, or not said.** What is there after [`Tables::put`], [`Tables::put_all`]
-//! and [`Tables::set_lines`] wrote, since they write through a `&mut` that is lent from a map of
-//! maps; so that an entry which was put is found. Which scopes [`Tables::scopes`] lists: that each
-//! is kept under its own stones is no invariant. Which of several with as little
+//! **What is only tested, or not said.** When a table is full: a body that always says so is
+//! proved. What the key of a call that failed has. That each scope is kept under its own stones is
+//! no invariant, so [`Tables::put_all`] and [`Tables::scopes`] speak of the stones that a scope
+//! names; and the order that [`Tables::scopes`] answers. Which of several with as little
 //! [`Tables::least`] answers (the newest), and which of several covers is chosen; a body of
 //! [`cover`] that always answers none is proved. Any call that takes memory may say that it ran
 //! out.
@@ -41,9 +46,12 @@
 #![tactic(auto)]
 
 mod covers;
+mod entries;
+mod scopes;
 mod stops;
 mod tables;
 
 pub use covers::{Choice, Saving, choices_of, cover, together};
+pub use entries::{EdgeEntry, Key, Measure, Origin};
 pub use stops::Stop;
-pub use tables::{EdgeEntry, Key, Measure, Origin, Tables};
+pub use tables::Tables;

@@ -1,122 +1,26 @@
 //! Entries between the edges of each player, by his stones.
 
-ghost use Rattle.std.specs.Prelude.{◌≡◌, ℕ, [], filter, reverse, IfOk};
+ghost use Rattle.std.specs.Prelude.{◌≡◌, ℕ, [], ◌∷◌, filter, reverse, IfOk, OnOk};
 ghost use Rattle.std.specs.List.{list_any};
+ghost use Rattle.std.specs.List.Sorted.{IsPermutation};
+ghost use Rattle.indexmap.specs.IndexMap.{values};
 ghost use Rattle.hex_cells.specs.Sets.{has};
-ghost use Rattle.edge_tables.specs.Entries.{amount_by, scope_entries, entries_of, is_common};
-ghost use Rattle.edge_tables.specs.Entries.{IsLeastInside, is_inside, is_report, scopes_of};
+ghost use Rattle.edge_tables.specs.Entries.{AgreeBut, AgreeOnOther, ArePut, IsLeastInside};
+ghost use Rattle.edge_tables.specs.Entries.{entries_of, scope_stones};
+ghost use Rattle.edge_tables.specs.Entries.{is_common, is_inside, makes_needless, newest_beside};
+ghost use Rattle.edge_tables.specs.Entries.{scopes_of, with_each};
+ghost use Rattle.edge_tables.specs.Entries.{with_lines_at, with_newest};
 
+use super::entries::{EdgeEntry, Key, Measure};
+use super::scopes::{Scope, add_among, set_lines_among};
 use super::stops::Stop;
 use conn_store::Kind;
-use hex_cells::{Cell, CellSet, Colour};
+use hex_cells::{CellSet, Colour};
 use indexmap::IndexMap;
 use std::alloc::{AllocError, Global};
 
 /// The most entries of the tables: some 200 MB.
 const MOST_ENTRIES: usize = 2_000_000;
-
-/// Of whom an entry speaks: the player, who of the two may move first, and the player's stones.
-#[derive(Clone, Copy, Debug, PartialEq, Eq)]
-pub struct Key {
-    pub player: Colour,
-    pub kind: Kind,
-    pub stones: CellSet,
-}
-
-/// How an entry came.
-#[derive(Clone, Copy, Debug, PartialEq, Eq)]
-pub enum Origin {
-    /// It is in the player's report in which the cells of this set are empty.
-    Report(CellSet),
-    /// By the player's stone on the cell.
-    Move(Cell),
-    /// By other entries, one for each stone of the opponent's.
-    Cases,
-}
-
-/// An entry between a player's edges. It stands wherever he has the stones of its key and its
-/// carrier is empty, whatever stones the opponent has.
-#[derive(Clone, Copy, Debug, PartialEq, Eq)]
-pub struct EdgeEntry {
-    pub carrier: CellSet,
-    /// About how many lines of a certificate show it.
-    pub lines: u32,
-    pub origin: Origin,
-}
-
-/// What the best of several entries has least of.
-#[derive(Clone, Copy, Debug, PartialEq, Eq)]
-pub enum Measure {
-    /// Lines.
-    Lines,
-    /// Cells in its carrier, and of as many cells lines.
-    Cells,
-}
-
-impl EdgeEntry {
-    /// Whether it is in a report.
-    pub fn is_reported(&self) -> bool
-        ensures { result ≡ is_report self.now.origin }
-    {
-        match self.origin {
-            Origin::Report(_) => true,
-            Origin::Move(_) | Origin::Cases => false,
-        }
-    }
-
-    /// How much it has of what is measured.
-    pub fn amount(&self, measure: Measure) -> u64
-        ensures { result ≡ amount_by measure self.now }
-    {
-        let lines = u64::from(self.lines);
-        match measure {
-            Measure::Lines => lines,
-            Measure::Cells => u64::from(self.carrier.count()) * (1 << u32::BITS) + lines,
-        }
-    }
-
-    // Whether its carrier lies inside the region.
-    fn lies_inside(&self, region: CellSet) -> bool
-        ensures { result ≡ is_inside region self.now }
-    {
-        self.carrier.inside(region)
-    }
-
-    // Whether it makes the other needless: its carrier lies inside the other's, and it has at most
-    // twice as many lines, or if the carriers are equal at most as many.
-    fn replaces(&self, other: &EdgeEntry) -> bool {
-        if self.carrier == other.carrier {
-            return self.lines <= other.lines;
-        }
-        self.carrier.inside(other.carrier) && self.lines <= other.lines.saturating_mul(2)
-    }
-}
-
-// The entries of a player with certain stones, the newest last.
-#[derive(Drop)]
-struct Scope {
-    stones: CellSet,
-    full: Vec<EdgeEntry>,
-    semi: Vec<EdgeEntry>,
-}
-
-impl Scope {
-    fn list(&self, kind: Kind) -> &[EdgeEntry]
-        ensures { result.now ≡ scope_entries self.now kind }
-    {
-        match kind {
-            Kind::Full => &self.full,
-            Kind::Semi => &self.semi,
-        }
-    }
-
-    fn list_mut(&mut self, kind: Kind) -> &mut Vec<EdgeEntry> {
-        match kind {
-            Kind::Full => &mut self.full,
-            Kind::Semi => &mut self.semi,
-        }
-    }
-}
 
 /// The entries that are known.
 #[derive(Drop)]
@@ -146,13 +50,6 @@ impl Tables {
         match player {
             Colour::Black => &self.black,
             Colour::White => &self.white,
-        }
-    }
-
-    fn map_mut(&mut self, player: Colour) -> &mut IndexMap<u128, Scope> {
-        match player {
-            Colour::Black => &mut self.black,
-            Colour::White => &mut self.white,
         }
     }
 
@@ -228,59 +125,94 @@ impl Tables {
     /// makes needless. A full table stays as it was; if memory runs out, those may be gone and the
     /// entry not there.
     pub fn put(&mut self, key: &Key, entry: &EdgeEntry) -> Result<(), Stop>
-        ensures { result ≡ Err Stop.Full → self.new ≡ self.old }
+        ensures put { let es = entries_of self.old key.now in
+            OnOk result (entries_of self.new key.now ≡ with_newest entry.now es) }
+        ensures aside { AgreeBut key.now self.old self.new }
+        ensures full { result ≡ Err Stop.Full → self.new ≡ self.old }
     {
-        if self.entries(key).iter().any(|old| old.replaces(entry)) {
+        if self.has_better(key, entry) {
             return Ok(());
         }
         if MOST_ENTRIES <= self.count {
             return Err(Stop::Full);
         }
-        let alloc = self.alloc;
-        let map = self.map_mut(key.player);
-        if map.get(&key.stones.bits()).is_none() {
-            let scope = Scope {
-                stones: key.stones,
-                full: Vec::new(alloc),
-                semi: Vec::new(alloc),
-            };
-            map.insert(key.stones.bits(), scope)?;
-        }
-        let Some(scope) = map.get_mut(&key.stones.bits()) else {
-            return Ok(());
-        };
-        let list = scope.list_mut(key.kind);
-        let before = list.len();
-        list.retain(|old| !entry.replaces(old));
-        let after = list.len();
-        list.push(*entry)?;
-        self.count = self
-            .count
-            .saturating_add(after)
-            .saturating_add(1)
-            .saturating_sub(before);
+        let others = self.count.saturating_sub(self.entries(key).len());
+        self.add(key, entry)?;
+        self.count = others.saturating_add(self.entries(key).len());
         Ok(())
     }
 
+    // Whether an entry of the key makes this one needless.
+    fn has_better(&self, key: &Key, entry: &EdgeEntry) -> bool
+        ensures { let es = entries_of self.now key.now in
+            result ≡ list_any (λ other. makes_needless other entry.now) es }
+    {
+        self.entries(key)
+            .iter()
+            .any(|other| other.makes_needless(entry))
+    }
+
+    // Adds an entry, and takes away those that it makes needless.
+    fn add(&mut self, key: &Key, entry: &EdgeEntry) -> Result<(), AllocError>
+        ensures added { let es = entries_of self.old key.now in
+            OnOk result (entries_of self.new key.now ≡ newest_beside entry.now es) }
+        ensures aside { AgreeBut key.now self.old self.new }
+    {
+        match key.player {
+            Colour::Black => add_among(self.alloc, &mut self.black, key, entry),
+            Colour::White => add_among(self.alloc, &mut self.white, key, entry),
+        }
+    }
+
     /// Puts all entries of a player that others have.
-    pub fn put_all(&mut self, others: &Tables, player: Colour) -> Result<(), Stop> {
+    pub fn put_all(&mut self, others: &Tables, player: Colour) -> Result<(), Stop>
+        ensures put { let scopes = values (scopes_of others.now player) in
+            OnOk result (ArePut player scopes self.old self.new) }
+        ensures other { AgreeOnOther player self.old self.new }
+    {
         for scope in others.map(player).values() {
-            for kind in [Kind::Full, Kind::Semi] {
-                let key = Key {
-                    player,
-                    kind,
-                    stones: scope.stones,
-                };
-                for entry in scope.list(kind) {
-                    self.put(&key, entry)?;
-                }
-            }
+            self.put_scope(scope, player)?;
+        }
+        Ok(())
+    }
+
+    // Puts the entries of a player with certain stones.
+    fn put_scope(&mut self, scope: &Scope, player: Colour) -> Result<(), Stop>
+        ensures put { OnOk result (ArePut player (scope.now ∷ []) self.old self.new) }
+        ensures other { AgreeOnOther player self.old self.new }
+    {
+        let stones = scope.stones;
+        let full = Key {
+            player,
+            kind: Kind::Full,
+            stones,
+        };
+        let semi = Key {
+            player,
+            kind: Kind::Semi,
+            stones,
+        };
+        self.put_each(&full, scope.list(Kind::Full))?;
+        self.put_each(&semi, scope.list(Kind::Semi))
+    }
+
+    // Puts these entries of a key, one after the other.
+    fn put_each(&mut self, key: &Key, entries: &[EdgeEntry]) -> Result<(), Stop>
+        ensures put { let es = entries_of self.old key.now in
+            OnOk result (entries_of self.new key.now ≡ with_each entries.now es) }
+        ensures aside { AgreeBut key.now self.old self.new }
+    {
+        for entry in entries {
+            self.put(key, entry)?;
         }
         Ok(())
     }
 
     /// The sets of stones for which a player has entries, those with the most stones first.
-    pub fn scopes(&self, alloc: Global, player: Colour) -> Result<Vec<CellSet>, AllocError> {
+    pub fn scopes(&self, alloc: Global, player: Colour) -> Result<Vec<CellSet>, AllocError>
+        ensures { let stones = scope_stones (scopes_of self.now player) in
+            IfOk result (λ list. IsPermutation stones list.items) }
+    {
         let mut list = Vec::new(alloc);
         for scope in self.map(player).values() {
             list.push(scope.stones)?;
@@ -290,11 +222,14 @@ impl Tables {
     }
 
     /// Says how many lines the entry at a place of a key has.
-    pub fn set_lines(&mut self, key: &Key, place: usize, lines: u32) {
-        if let Some(scope) = self.map_mut(key.player).get_mut(&key.stones.bits())
-            && let Some(entry) = scope.list_mut(key.kind).get_mut(place)
-        {
-            entry.lines = lines;
+    pub fn set_lines(&mut self, key: &Key, place: usize, lines: u32)
+        ensures set { let es = entries_of self.old key.now in
+            entries_of self.new key.now ≡ with_lines_at place lines es }
+        ensures aside { AgreeBut key.now self.old self.new }
+    {
+        match key.player {
+            Colour::Black => set_lines_among(&mut self.black, key, place, lines),
+            Colour::White => set_lines_among(&mut self.white, key, place, lines),
         }
     }
 }
