@@ -92,7 +92,7 @@ def certificate():
 
 
 def check_pipe():
-    """What `migrate` gives for a certificate of the latest version is its text, in one write."""
+    """What `migrate` gives for a certificate of version 2 is its text, in one write."""
     text = certificate()
     reader, writer = os.pipe()
     fcntl(writer, F_SETPIPE_SZ, PIPE)
