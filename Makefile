@@ -1,7 +1,7 @@
 # For those who look for a Makefile: bin/hexd starts the program, and .ci/run proves and checks everything.
 #
 #   make                                  takes the programs from release/, or builds them if it is of other sources
-#   make check                            tests these programs and what stands beside them, in some two minutes
+#   make check                            tests these programs and what stands beside them, in some minutes
 #   make prove                            builds them from the sources, whatever is shipped, and compares
 #   make page [OUT=..]                    makes hexd.html, hexd in one page for a browser, by what was built from the sources
 #   make release                          packs what .ci/run has just built into release/, and makes the page there
