@@ -12,9 +12,9 @@ edge_numbers found Full = found.edge_full.items
 edge_numbers found Semi = found.edge_semi.items
 
 -- the entries of the report, by their numbers
-abbrev pub entries_of : Reach → List Entry
-entries_of reach = reach.found.entries.items
+abbrev pub report_entries : Reach → List Entry
+report_entries reach = reach.found.entries.items
 
 -- the numbers of its entries between the edges
-abbrev pub numbers_of : Reach → Kind → List ℕ
-numbers_of reach kind = edge_numbers reach.found kind
+abbrev pub report_numbers : Reach → Kind → List ℕ
+report_numbers reach kind = edge_numbers reach.found kind

@@ -2,7 +2,7 @@
 
 ghost use Rattle.std.specs.Prelude.{◌≡◌, length, option_map};
 ghost use Rattle.std.specs.List.{slice_get};
-ghost use Rattle.edge_reach.specs.Reports.{entries_of, numbers_of};
+ghost use Rattle.edge_reach.specs.Reports.{report_entries, report_numbers};
 ghost use Rattle.edge_reach.specs.declared.entries.End.{End};
 
 use super::circuits::Circuit;
@@ -53,7 +53,7 @@ pub struct Reach {
     ways: Vec<Vec<Way>>,
     // The semi entries of a pair that were taken.
     others: Vec<(CellSet, u32)>,
-    // Of these the ones that are united.
+    // A semi entry, and those of the others that are united with it.
     united: Vec<u32>,
     walk: Walk,
 }
@@ -78,21 +78,21 @@ impl Reach {
 
     /// The numbers of the entries between the edges, those that were given up among them.
     pub fn between_edges(&self, kind: Kind) -> &[u32]
-        ensures { result.now ≡ numbers_of self.now kind }
+        ensures { result.now ≡ report_numbers self.now kind }
     {
         self.found.between_edges(kind)
     }
 
     /// How many entries there are.
     pub fn count(&self) -> usize
-        ensures { result ≡ length (entries_of self.now) }
+        ensures { result ≡ length (report_entries self.now) }
     {
         self.found.entries().len()
     }
 
     /// The entry with this number.
     pub fn entry(&self, number: u32) -> Option<&Entry>
-        ensures { option_map (λ e. e.now) result ≡ slice_get (entries_of self.now) number }
+        ensures { option_map (λ e. e.now) result ≡ slice_get (report_entries self.now) number }
     {
         self.found.entries().get(number as usize)
     }

@@ -66,9 +66,13 @@ entries_or_none (Some scope) kind = scope_entries scope kind
 abbrev pub entries_among : Scopes → ℕ → Kind → List EdgeEntry
 entries_among scopes stones kind = entries_or_none (get nat_eq scopes stones) kind
 
+-- the entries of a key, among its player's scopes
+abbrev pub key_entries : Scopes → Key → List EdgeEntry
+key_entries scopes key = entries_among scopes key.stones key.kind
+
 -- the entries of a key, the newest last
 abbrev pub entries_of : Tables → Key → List EdgeEntry
-entries_of tables key = entries_among (scopes_of tables key.player) key.stones key.kind
+entries_of tables key = key_entries (scopes_of tables key.player) key
 
 -- an entry of the list that lies inside the region, and none of those inside has less
 pub record IsLeast (measure : Measure) (region : ℕ) (es : List EdgeEntry) (e : EdgeEntry)

@@ -2,8 +2,8 @@
 
 ghost use Rattle.std.specs.Prelude.{◌≡◌, ℕ, [], IsSome, OnOk, nat_eq};
 ghost use Rattle.indexmap.specs.IndexMap.{get};
-ghost use Rattle.edge_tables.specs.Entries.{AgreeAside, KeepsOther, entries_among, newest_beside};
-ghost use Rattle.edge_tables.specs.Entries.{scope_entries, with_lines_at};
+ghost use Rattle.edge_tables.specs.Entries.{AgreeAside, KeepsOther, entries_among, key_entries};
+ghost use Rattle.edge_tables.specs.Entries.{newest_beside, scope_entries, with_lines_at};
 
 use super::entries::{EdgeEntry, Key, add_last, set_lines_at};
 use conn_store::Kind;
@@ -76,9 +76,8 @@ pub fn add_among(
     key: &Key,
     entry: &EdgeEntry,
 ) -> Result<(), AllocError>
-    ensures added { let es = entries_among scopes.old key.now.stones key.now.kind in
-        OnOk result (entries_among scopes.new key.now.stones key.now.kind
-        ≡ newest_beside entry.now es) }
+    ensures added { let es = key_entries scopes.old key.now in
+        OnOk result (key_entries scopes.new key.now ≡ newest_beside entry.now es) }
     ensures aside { AgreeAside key.now.stones key.now.kind scopes.old scopes.new }
 {
     open(alloc, scopes, key.stones)?;
@@ -106,8 +105,8 @@ fn open(
 
 /// Says how many lines the entry at a place of the key has.
 pub fn set_lines_among(scopes: &mut IndexMap<u128, Scope>, key: &Key, place: usize, lines: u32)
-    ensures set { let es = entries_among scopes.old key.now.stones key.now.kind in
-        entries_among scopes.new key.now.stones key.now.kind ≡ with_lines_at place lines es }
+    ensures set { let es = key_entries scopes.old key.now in
+        key_entries scopes.new key.now ≡ with_lines_at place lines es }
     ensures aside { AgreeAside key.now.stones key.now.kind scopes.old scopes.new }
 {
     if let Some(scope) = scopes.get_mut(&key.stones.bits()) {

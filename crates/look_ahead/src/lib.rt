@@ -22,7 +22,9 @@
 //! **What is only tested, or not said.** How strong the choice is; that a node is won or lost as it
 //! says. What rests on a report needs no proof here, since the cell is searched as any other.
 //!
-//! **Limits.** As many nodes as the budget. Each takes its own size and up to 121 kids of 12 bytes.
+//! **Limits.** As many nodes as the budget. Each takes its own size and up to 121 kids of 12 bytes:
+//! before the first walk, for the first 10,000 of them. The reports take theirs with the first node
+//! that is judged, and the later ones are made in it.
 //!
 //! **Why so.**
 //!

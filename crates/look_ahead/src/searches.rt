@@ -15,6 +15,10 @@ use std::alloc::Global;
 // So many walks are made for each node of the budget at most: some end at a node that is known.
 const WALKS_PER_NODE: u64 = 4;
 
+// Room is made beforehand for so many nodes, with as many kids as the root has each: less than
+// 16 MB.
+const NODES_WITH_ROOM: u32 = 10_000;
+
 /// A board with the player to move, and the reports of both players, if they are known.
 #[derive(Clone, Copy)]
 pub struct Root<'a> {
@@ -74,6 +78,7 @@ impl Look {
     {
         self.nodes.clear();
         self.kids.clear();
+        self.make_room(budget.min(NODES_WITH_ROOM), must.count())?;
         let first = self.opened_root(alloc, root, must)?;
         self.nodes.push(first)?;
         'walks: for _walk in 0..u64::from(budget) * WALKS_PER_NODE {
@@ -86,6 +91,16 @@ impl Look {
         let nodes = self.nodes.len() as u32;
         let rows = self.rows(alloc)?;
         Ok(Looked::of(cell, nodes, rows))
+    }
+
+    // Makes room for so many nodes, with so many kids each, and for a walk.
+    fn make_room(&mut self, nodes: u32, kids: u32) -> Result<(), Memory>
+        ensures { self.new.nodes.items ≡ self.old.nodes.items }
+    {
+        self.nodes.reserve(nodes as usize)?;
+        self.kids.reserve(nodes as usize * kids as usize)?;
+        self.path.reserve(MOST_CELLS as usize + 1)?;
+        Ok(())
     }
 
     // Whether as many nodes were judged, or the root is decided.
