@@ -1,5 +1,5 @@
 -- Certificates that say who wins a position p with `mover` to place next.
-use Rattle.std.specs.Prelude.{◌≡◌}
+use Rattle.std.specs.Prelude.{◌≡◌, ℕ}
 use Rattle.std.specs.Prelude.{if◌then◌else◌}
 use Rattle.hex_cells.specs.Colours.{is_same}
 use Rattle.hex_cells.specs.declared.colours.Colour.{Colour}
@@ -7,6 +7,7 @@ use Rattle.hex_board.specs.Positions.{Position}
 use Rattle.hex_board.specs.Wins.{Wins}
 use Rattle.conn_store.specs.declared.entries.Kind.{Kind}
 use Rattle.conn_store.specs.declared.entries.Kind.TheVariants.{Full, Semi}
+use Rattle.win_cert.specs.Laws.{ClaimsMove}
 use Rattle.win_cert.specs.Verdicts.{Accepted}
 use Rattle.win_cert.specs.Versions.{version_for}
 use Rattle.win_cert.specs.Writable.{IsWritable}
@@ -34,3 +35,7 @@ pub record IsCertifiedWinner (p : Position) (mover winner : Colour) (cert : Cert
 -- the certificate's player wins p by it
 abbrev pub IsFound : Position → Colour → Cert → Type 0
 IsFound p mover cert = IsCertifiedWinner p mover cert.player cert
+
+-- if the certificate's player is to move, the line that it claims is a `move`
+abbrev pub NamesMove : Colour → Cert → Type 0
+NamesMove mover cert = cert.player ≡ mover → (k : ℕ) × ClaimsMove cert k

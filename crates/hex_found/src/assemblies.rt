@@ -86,6 +86,9 @@ fn show(
     for group in groups {
         serve_group(alloc, draft, scope, &mut scene, group, &mut open)?;
     }
+    if open.iter().any(|need| need.need == CLAIM) && !scene.has_stone() {
+        scene.find_stone(alloc, deriver)?;
+    }
     let all = serve_open(alloc, draft, scope, &mut scene, open)?;
     if let Some(block) = draft.blocks.get_index_mut(scope) {
         block.pool = scene.pool;
@@ -263,7 +266,7 @@ fn common_but(carriers: &[CellSet], region: CellSet, but: usize) -> CellSet {
 const CLAIM: usize = 0;
 
 // Serves the open needs, by what costs least a need: whether nothing is missing. What is claimed is
-// served by a stone, if one is known, since a caller plays it.
+// served by a stone, if one is listed, since a caller plays it.
 fn serve_open(
     alloc: Global,
     draft: &mut Draft,

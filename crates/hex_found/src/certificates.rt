@@ -4,7 +4,7 @@ ghost use Rattle.std.specs.Prelude.{◌≡◌, ◌≤◌, IfOk, IfSome, IsTrue, 
 ghost use Rattle.win_cert.specs.Writable.{AreNumbers, IsEndOn, IsLineOf, IsWritable};
 ghost use Rattle.win_cert.specs.Versions.{version_for};
 ghost use Rattle.win_cert.specs.declared.lines.TheConstants.{MOST_CASES};
-ghost use Rattle.hex_found.specs.Found.{IsFound, claim_for};
+ghost use Rattle.hex_found.specs.Found.{IsFound, NamesMove, claim_for};
 
 use super::refusals::Memory;
 use super::seeking::seek;
@@ -15,11 +15,12 @@ use hex_cells::{CellSet, Colour, Size};
 use std::alloc::Global;
 use win_cert::{
     Cert, End, LATEST_VERSION, LEAST_CASES, LEAST_MANY, Line, MOST_CASES, MOST_LINES, MOST_NUMBER,
-    SECOND_VERSION, Verdict, version_for,
+    SECOND_VERSION, Verdict, claimed_move, version_for,
 };
 
-/// A certificate of who wins the position, found by entering at most `budget` states. `None` if
-/// that found none, or one that is too long.
+/// A certificate of who wins the position, found by entering at most `budget` states. If the player
+/// to move wins, the line that it claims is a `move`. `None` if that found none, or one that is too
+/// long.
 ///
 /// No clause says when a certificate is found: a body that always answers `None`, or that memory
 /// ran out, is proved, and refused by the tests.
@@ -30,11 +31,26 @@ pub fn find(
     budget: u64,
 ) -> Result<Option<Cert>, Memory>
     ensures found { IfOk result (λ r. IfSome r (IsFound board.now mover)) }
+    ensures moves { IfOk result (λ r. IfSome r (NamesMove mover)) }
 {
-    match seek(alloc, board, mover, budget, MOST_LINES)?.cert {
-        Some(cert) => certified(alloc, board, mover, cert),
-        None => Ok(None),
-    }
+    let Some(sought) = seek(alloc, board, mover, budget, MOST_LINES)?.cert else {
+        return Ok(None);
+    };
+    let Some(cert) = certified(alloc, board, mover, sought)? else {
+        return Ok(None);
+    };
+    Ok(if names_move(&cert, mover) {
+        Some(cert)
+    } else {
+        None
+    })
+}
+
+// Whether the certificate claims a `move`, if its player is to move.
+fn names_move(cert: &Cert, mover: Colour) -> bool
+    ensures { IsTrue result → NamesMove mover cert.now }
+{
+    cert.player != mover || claimed_move(cert).is_some()
 }
 
 /// What is claimed for a winner: that he wins by moving first, or even with the other to move.

@@ -92,6 +92,19 @@ impl Deriver {
         Ok(())
     }
 
+    /// Whether a full entry is found inside a region.
+    pub(crate) fn finds_full(
+        &mut self,
+        alloc: Global,
+        stones: CellSet,
+        region: CellSet,
+    ) -> Result<bool, AllocError> {
+        let mut pool = Pool::new(alloc);
+        let mut have = Vec::new(alloc);
+        self.derive(alloc, stones, region, &mut pool, &mut have)?;
+        Ok(have.iter().any(|derived| derived.kind == Kind::Full))
+    }
+
     /// Pours a derivation of an entry that the search had by a report, or of narrower ones.
     pub(crate) fn derive_again(
         &mut self,

@@ -24,9 +24,9 @@
 //! stand there already cost nothing.
 //!
 //! **What is proved.** [`find`] and [`certified`] answer certificates that are found
-//! (specs/Found.antt), so that their player wins: by `cert_check`, whatever the search said. That
-//! [`seek`] counts at most the budget of states, all its searches together, and that each call is
-//! safe and ends.
+//! (specs/Found.antt), so that their player wins: by `cert_check`, whatever the search said. Those
+//! of [`find`] say by which move, if he is to move. That [`seek`] counts at most the budget of
+//! states, all its searches together, and that each call is safe and ends.
 //!
 //! **What is only tested, or not said.** That something is found, how soon, and by how many lines;
 //! that each state is counted, and that [`find`] hands over its budget and no more; that calls get
@@ -41,6 +41,8 @@
 //! - Find, then check: the search needs no proof, and can change without a promise.
 //! - The entries of a report are derived anew, by reports with many, with few and with very few
 //!   entries of a pair: fewer entries make shorter derivations.
+//! - Who asks [`find`] wants to play: so a claim is served by a stone. If the search ended before
+//!   it knew one, H-search finds it inside the carrier of the entry that decided.
 //! - If the certificate has more lines than one may have, searches by other orders put their
 //!   entries to the rest, and it is made anew. If it still has too many, short proofs are looked
 //!   for where it is dear.

@@ -179,6 +179,49 @@ impl Scene {
         Ok(())
     }
 
+    /// Whether a semi entry by a stone is listed.
+    pub(crate) fn has_stone(&self) -> bool {
+        self.ways
+            .iter()
+            .any(|way| matches!(way.by, By::Stone(_, _)))
+    }
+
+    /// Lists a semi entry by a stone, if H-search finds one inside the carrier of a derived one.
+    /// There is one on the cell over which that follows.
+    pub(crate) fn find_stone(
+        &mut self,
+        alloc: Global,
+        deriver: &mut Deriver,
+    ) -> Result<(), AllocError> {
+        for place in 0..self.have.len() {
+            if let Some(derived) = self.have.get(place)
+                && derived.kind == Kind::Semi
+            {
+                let carrier = derived.carrier;
+                if let Some(cell) = self.stone_inside(alloc, deriver, carrier)? {
+                    let by = By::Stone(cell, LINE);
+                    return Ok(self.ways.push(Way { carrier, by })?);
+                }
+            }
+        }
+        Ok(())
+    }
+
+    // A cell of the carrier such that after a stone there the rest is the carrier of a full entry.
+    fn stone_inside(
+        &self,
+        alloc: Global,
+        deriver: &mut Deriver,
+        carrier: CellSet,
+    ) -> Result<Option<Cell>, AllocError> {
+        for cell in cells_of(carrier) {
+            if deriver.finds_full(alloc, self.stones.with(cell), carrier.without(cell))? {
+                return Ok(Some(cell));
+            }
+        }
+        Ok(None)
+    }
+
     /// The cheapest way to show a full entry inside a region, and what it costs.
     pub(crate) fn cheapest(
         &self,

@@ -67,8 +67,8 @@
 //! - A threat is a certificate and a carrier. The claim gives the carrier too; it stands beside it
 //!   so that `mustplay` prints it without a look into the report. `IsThreat` ties both to one semi
 //!   entry, `IsFoundThreat` to the verdict of the checker.
-//! - A certificate that was found wins by its claimed line if that is a `move`: the board of this
-//!   line's scope is that with the stone. The finder claims no win of the mover by another line.
+//! - A certificate that was found wins by its claimed line, a `move`: the board of this line's
+//!   scope is that with the stone. The finder claims no win of the mover by another line.
 //! - What the look-ahead found stands in the turn, so that a tree's cells are known from the turn:
 //!   the allowed ones, or the one that was chosen.
 //! - Threats are one for each carrier. Two semi entries of one pair never have one carrier, but no

@@ -1,7 +1,7 @@
 //! Plans by certificates that are found.
 
 ghost use Rattle.std.specs.Prelude.{◌≡◌, ◌≢◌, ◌∷◌, [], IfOk, IfSome};
-ghost use Rattle.hex_found.specs.Found.{IsFound};
+ghost use Rattle.hex_found.specs.Found.{IsFound, NamesMove};
 ghost use Rattle.hex_plan.specs.Planning.{IsFoundFor};
 ghost use Rattle.hex_plan.specs.Plans.{IsFoundPlan};
 ghost use Rattle.win_cert.specs.Verdicts.{IsVerdict};
@@ -21,8 +21,8 @@ use win_cert::{Cert, Verdict, claimed_move};
 
 /// The plan by a certificate of who wins with `colour` to move, if one is found by entering at most
 /// `budget` positions; none is looked for with a budget of 0. If the player to move wins, it is a
-/// win by the cell of the claimed line, if that is a `move`; if the other player does, a search of
-/// a lost board with this threat.
+/// win by the cell of the claimed `move`; if the other player does, a search of a lost board with
+/// this threat.
 ///
 /// It refuses only if memory runs out. No clause says when one is found: a body that always answers
 /// `None` is proved.
@@ -41,20 +41,21 @@ pub(crate) fn found_plan(
         return Ok(None);
     };
     if cert.player == colour {
-        Ok(win_by(cert, board, colour))
+        Ok(Some(win_by(cert, board, colour)))
     } else {
         loss_by(alloc, cert, board, colour)
     }
 }
 
-// The win by a certificate of the player to move that was found, if it claims a `move`.
-fn win_by(cert: Cert, board: &Board, colour: Colour) -> Option<Plan>
+// The win by a certificate of the player to move that was found.
+fn win_by(cert: Cert, board: &Board, colour: Colour) -> Plan
     requires found { IsFound board.now colour cert }
     requires player { cert.player ≡ colour }
-    ensures { IfSome result (IsFoundPlan board.now colour) }
+    requires moves { NamesMove colour cert }
+    ensures { IsFoundPlan board.now colour result }
 {
-    let cell = claimed_move(&cert)?;
-    Some(Plan::Win { cert, cell })
+    let cell = claimed_move(&cert).unwrap();
+    Plan::Win { cert, cell }
 }
 
 // The search of a board that is lost by a certificate of the other player that was found.
