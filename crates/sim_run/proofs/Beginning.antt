@@ -17,7 +17,6 @@ use Rattle.arena_rule.proofs.Options.{none-some, false-true}
 use Rattle.arena_rule.proofs.ViewSeats.{given-stays}
 use Rattle.walker.specs.declared.machine.Walker.{Walker}
 use Rattle.walker.specs.Belongs.{Belongs}
-use Rattle.lone_worker.specs.Alone.{HasRunAlone}
 use Rattle.sim_run.specs.BetweenSteps.{IsNew, AreNew, AreSimulated}
 use Rattle.sim_run.proofs.Zips.{all-at, zip-same}
 
@@ -52,7 +51,6 @@ module _ (s : Setting) (h : IsSetting s) (walkers : List Walker) (new : AreNew s
         views = replicate s.knobs.workers v;
         rule = subst (λ (n : ℕ). Rule s (opening_words s) (replicate n v)) (sym one) (begins s h);
         belong = many Belongs v own;
-        alone = λ _. many (HasRunAlone s) v (λ i w e. (0, (own i w e, refl)));
       }
 
   -- each of several has a view split from it
@@ -70,7 +68,6 @@ module _ (s : Setting) (h : IsSetting s) (walkers : List Walker) (new : AreNew s
         rule = begins-apart s h;
         belong = many Belongs v
             (λ i w e. all-at (IsNew s) walkers new.each i w e v refl refl empty given);
-        alone = λ one. absurd (ne one);
       }
 
   pub begins-simulated : AreSimulated s (opening_words s) walkers

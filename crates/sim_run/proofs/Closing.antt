@@ -8,8 +8,6 @@ use Rattle.std.proofs.lemmas.List.Sums.{sum_by-cons, sum_by_push}
 use mathlib.Core.Option.{some}
 use lib.ListN.{get_elem?}
 use Rattle.tree_words.specs.Settings.{Setting}
-use Rattle.tree_words.specs.Sequence.{seq_of}
-use Rattle.tree_words.specs.Trees.{IsTreeOf}
 use Rattle.tree_words.specs.Closing.{IsClosed}
 use Rattle.arena_rule.specs.Views.{SeatView, HasEnded, spent_view}
 use Rattle.arena_rule.specs.Fits.{FitsStep}
@@ -20,8 +18,6 @@ use Rattle.arena_rule.proofs.Law.{joins, closes}
 use Rattle.walker.specs.declared.machine.Walker.{Walker}
 use Rattle.walker.specs.Belongs.{Belongs}
 use Rattle.walker.proofs.Fitting.{fits}
-use Rattle.lone_worker.specs.Alone.{HasRunAlone, ShowsSequence}
-use Rattle.lone_worker.proofs.Machines.{ends-as-sequence}
 use Rattle.sim_run.specs.Steps.{IsFinished}
 use Rattle.sim_run.specs.BetweenSteps.{AreSimulated, AreFinished}
 use Rattle.sim_run.proofs.Zips.{all-at, at-middle, set-middle}
@@ -92,20 +88,3 @@ module _ (s : Setting) (words : List ℕ) where
     pub ends-closed : IsClosed s words
     ends-closed = end-closes u.views u.rule
         (are-over walkers u.views u.belong (all-at IsFinished walkers done))
-
-    -- the words are the copy of the walker that has run alone
-    shown : (ws : List Walker) (views : List SeatView) → Rule s words views
-        → AllZip (HasRunAlone s) ws views
-        → ((i : ℕ) (w : Walker) → get_elem? ws i ≡ some w → IsFinished w)
-        → IsTreeOf s words (seq_of s).0
-    shown [] [] r z each
-        = absurd (omega (arith, r.state.widths.sum, r.state.setting.ranges.workers.0))
-    shown [] (v ∷ views) r z each = absurd z
-    shown (w ∷ ws) [] r z each = absurd z
-    shown (w ∷ ws) (v ∷ views) r z each =
-        let t : ShowsSequence s v = ends-as-sequence s w v z.0 (each 0 w refl) in
-        subst (λ (l : List ℕ). IsTreeOf s l (seq_of s).0)
-        (sym (r.state.sole 0 v t.words refl t.whole).0) t.tree
-
-    pub ends-shown : s.knobs.workers ≡ 1 → IsTreeOf s words (seq_of s).0
-    ends-shown one = shown walkers u.views u.rule (u.alone one) (all-at IsFinished walkers done)

@@ -9,8 +9,7 @@
 --    (its word lies in the vector, and has room), Stepping (the rule and what belongs is kept, and
 --    fewer steps are left). A step of each in turn: Rounds.
 -- 4. The end: proofs/Closing (the views of walkers that are done are joined to one, and
---    arena_rule's law `closes` and the law of one worker give the clauses). The schedule's numbers:
---    Strays.
+--    arena_rule's law `closes` gives the clause). The schedule's numbers: Strays.
 
 -- Steps of this crate's own proofs.
 mod Zips

@@ -26,7 +26,6 @@ use Rattle.walker.specs.Measure.{steps_left}
 use Rattle.walker.proofs.Fitting.{fits}
 use Rattle.walker.proofs.Keeps.{keeps}
 use Rattle.walker.proofs.Falling.{fewer, bound}
-use Rattle.lone_worker.specs.Alone.{HasRunAlone}
 use Rattle.sim_run.specs.Plain.{FitsWord}
 use Rattle.sim_run.specs.BetweenSteps.{AreSimulated}
 use Rattle.sim_run.proofs.Zips.{zip-at, zip-set}
@@ -91,9 +90,6 @@ module _ (s : Setting) (words : List ℕ) (walkers : List Walker) (u : AreSimula
   rule : Rule s (words_after words op) (views_after words u.views id v op)
   rule = steps s words u.views u.rule id v here.1 live op fit
 
-  run-on : HasRunAlone s w v → HasRunAlone s (next w found) (after v op found)
-  run-on run = (suc run.0, (w, v, run.1, record { answer = found; may = may; walker_is = refl; view_is = refl }))
-
   -- it leaves a simulation
   pub stepped : AreSimulated s (words_after words op) (set walkers id (next w found))
   stepped = record {
@@ -101,8 +97,6 @@ module _ (s : Setting) (words : List ℕ) (walkers : List Walker) (u : AreSimula
     rule = rule;
     belong = zip-set Belongs walkers u.views u.belong id w (next w found) v
         (after v op found) at here.1 (λ h. keeps w v h found may);
-    alone = λ one. zip-set (HasRunAlone s) walkers u.views (u.alone one) id w (next w found) v
-        (after v op found) at here.1 run-on;
   }
 
   -- and less to do

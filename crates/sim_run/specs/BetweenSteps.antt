@@ -11,18 +11,15 @@ use Rattle.walker.specs.Belongs.{Belongs}
 use Rattle.walker.specs.Measure.{steps_left}
 use Rattle.walker.specs.declared.machine.TheConstants.{WALK_STEPS}
 use Rattle.walker.specs.declared.machine.Walker.{Walker}
-use Rattle.lone_worker.specs.Alone.{HasRunAlone}
 use Rattle.sim_run.specs.declared.simulation.Simulation.{Simulation}
 use Rattle.sim_run.specs.Steps.{SimulationData, data_of, IsFinished, StepsAlong, rounds}
 
 -- The words and the walkers are those of a simulation: there is a view for each walker, which
--- belongs to it, and the arena rule holds of the words with these views. A walker that is the only
--- one has run alone.
+-- belongs to it, and the arena rule holds of the words with these views.
 pub record AreSimulated (s : Setting) (words : List ℕ) (walkers : List Walker) : Type 0 where
   pub views : List SeatView
   pub rule : Rule s words views
   pub belong : AllZip Belongs walkers views
-  pub alone : s.knobs.workers ≡ 1 → AllZip (HasRunAlone s) walkers views
 
 -- so it is with a simulation between two steps
 abbrev pub IsUnderway : Simulation → Type 0

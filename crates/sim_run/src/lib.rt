@@ -7,15 +7,16 @@
 //! **A caller** makes a shape and a schedule and calls `simulate(alloc, &shape, &schedule)?`. The
 //! same two give the same words each time.
 //!
-//! **What is proved.** The tree is closed and of this shape, for every schedule, and with one
-//! worker it is the tree of the sequential search. It is the tree of this very schedule: from the
-//! opening words and new walkers on, each entry is one step of the walker with its number. Then
-//! come rounds, in each a step of each walker by rising number, until none has a step left
-//! (specs/Steps.antt, specs/BetweenSteps.antt). A number that no worker has is refused with its
-//! first place, before anything is simulated, and it refuses otherwise only if memory runs out.
-//! `simulate` returns, takes all its memory before the first step, and waits for nobody.
+//! **What is proved.** The tree is closed and of this shape, for every schedule. It is the tree of
+//! this very schedule: from the opening words and new walkers on, each entry is one step of the
+//! walker with its number. Then come rounds, in each a step of each walker by rising number, until
+//! none has a step left (specs/Steps.antt, specs/BetweenSteps.antt). A number that no worker has is
+//! refused with its first place, before anything is simulated, and it refuses otherwise only if
+//! memory runs out. `simulate` returns, takes all its memory before the first step, and waits for
+//! nobody.
 //!
-//! **What is only tested, or not said.** That it gets its memory.
+//! **What is only tested, or not said.** That it gets its memory; that one worker makes the tree of
+//! the sequential search (search_tests compares them).
 //!
 //! **How it is proved.** Between two steps there is a list of views, one of width 1 for each
 //! worker, each belongs to its walker, and the arena rule holds of the words with these views. The
@@ -27,9 +28,8 @@
 //! **Why so.**
 //!
 //! - The views of a simulation stand in proofs alone: the loop's measure is told from the words and
-//!   the walkers, by the draws that are left and what the walks in hand have left. With one worker
-//!   the first view has its copy of the opening words; with several they are views of width 1,
-//!   joined at the end to one, which closes the tree.
+//!   the walkers, by the draws that are left and what the walks in hand have left. The views of
+//!   several workers are of width 1, and joined at the end to one, which closes the tree.
 #![tactic(auto)]
 
 mod errors;

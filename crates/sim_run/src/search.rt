@@ -1,8 +1,6 @@
 //! The search by a schedule.
 
 ghost use Rattle.std.specs.Prelude.{◌≡◌, ◌↔◌, ℕ, IfOk, Err, Some};
-ghost use Rattle.tree_words.specs.Sequence.{seq_of};
-ghost use Rattle.tree_words.specs.Trees.{IsTreeOf};
 ghost use Rattle.sim_run.specs.Schedules.{first_stray};
 ghost use Rattle.sim_run.specs.BetweenSteps.{EndsSchedule};
 ghost use Rattle.sim_run.specs.declared.errors.SimError.{SimError};
@@ -22,15 +20,12 @@ fn find_stray(shape: &Shape, schedule: &[u8]) -> Option<usize>
 
 /// The closed tree that the workers of the shape make, when each entry of the schedule is one step
 /// of the worker with that number, and afterwards they step in turn, by rising number, until all
-/// are done. The entries of a worker that is done are passed over. One worker makes the tree of
-/// the sequential search.
+/// are done. The entries of a worker that is done are passed over.
 ///
 /// `NoSuchWalker` comes exactly if the schedule has a number that is no worker's, with its first
 /// place, before memory is taken. All memory is taken before the first step.
 pub fn simulate(alloc: Global, shape: &Shape, schedule: &[u8]) -> Result<Closed, SimError>
     ensures shape { IfOk result (λ closed. closed.shape ≡ shape.now) }
-    ensures one { shape.now.knobs.workers ≡ 1
-        → IfOk result (λ closed. IsTreeOf shape.now closed.words (seq_of shape.now).0) }
     ensures schedule { IfOk result (λ closed. EndsSchedule shape.now schedule.now closed.words) }
     ensures no_walker { (at : ℕ) → (result ≡ Err (SimError.NoSuchWalker at))
         ↔ (first_stray shape.now schedule.now ≡ Some at) }

@@ -18,8 +18,6 @@ impl Simulation {
     ghost use Rattle.std.specs.Prelude.{◌≡◌, ◌<◌, IfOk, IfSome, false, length, true};
     ghost use Rattle.std.specs.List.{All};
     ghost use Rattle.tree_words.specs.Opening.{opening_words};
-    ghost use Rattle.tree_words.specs.Sequence.{seq_of};
-    ghost use Rattle.tree_words.specs.Trees.{IsTreeOf};
     ghost use Rattle.sim_run.specs.BetweenSteps.{IsUnderway, AreNew, AreFinished, HasFewer};
     ghost use Rattle.sim_run.specs.Steps.{StepsAlong, StepsOnce, StepsRound, StepsRounds, data_of};
 
@@ -114,8 +112,6 @@ impl Simulation {
         requires finished { AreFinished self.walkers.items }
         ensures shape { result.shape ≡ self.shape }
         ensures words { result.words ≡ self.words.items }
-        ensures one { self.shape.knobs.workers ≡ 1
-            → IsTreeOf self.shape result.words (seq_of self.shape).0 }
     {
         let Simulation {
             shape,

@@ -1,5 +1,5 @@
 -- The turns and texts of modes sim and bench.
-use Rattle.std.specs.Prelude.{◌≡◌, ℕ, List, Some, None, false}
+use Rattle.std.specs.Prelude.{◌≡◌, ◌≢◌, ℕ, List, Some, None, false}
 use Rattle.hex_cells.specs.declared.colours.Colour.{Colour}
 use Rattle.hex_cells.specs.declared.colours.Colour.TheVariants.{Black}
 use Rattle.hex_board.specs.Joined.{winner_of}
@@ -56,10 +56,10 @@ first_rows knobs now mover = rows_in (seq_of (first_setting knobs now mover)).0
 
 -- ---- mode sim
 
--- the turn's tree is that of the schedule
+-- if there are several workers, the turn's tree is that of the schedule
 abbrev pub FollowsSchedule : ModeOptions → TurnData → Type 0
-FollowsSchedule o t = (tree : ClosedTree) × (t.closed ≡ Some tree) × EndsSchedule tree.shape
-    (schedule_of o.knobs.workers o.knobs.seed o.steps) tree.words
+FollowsSchedule o t = o.knobs.workers ≢ 1 → (tree : ClosedTree) × (t.closed ≡ Some tree)
+    × EndsSchedule tree.shape (schedule_of o.knobs.workers o.knobs.seed o.steps) tree.words
 
 -- the turn is that of the board without stones, with Black to move, and without means; the text is
 -- that of the turn, and with one worker the options determine it

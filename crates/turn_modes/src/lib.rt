@@ -15,7 +15,8 @@
 //! **What is proved**, in the words of specs/OneTurn.antt and specs/HandingIn.antt: after success
 //! the archive has exactly one turn more, if it tells; the turn is good and has number 0. In sim it
 //! is that of the board without stones, with Black to move, for a session that looks for no
-//! connections, and its tree is that of the schedule. In bench it is that of the position, for a
+//! connections, and its tree is that of the schedule, or with one worker the sequential search's.
+//! In bench it is that of the position, for a
 //! session with the means of bench; the position's stones are the longest prefix of a third of the
 //! shuffled cells of which none joins its player. The text is that of the turn: of its tree, or of
 //! a win. In bench without connections, and in sim with one worker, the options determine it. At a
@@ -38,7 +39,8 @@
 //!   function of rows (`best_cell`); that it is the cell of `IsBest` is proved.
 //! - The tree of `sim` is that of its schedule by a clause of [`hand_in`] and by none of `run`,
 //!   which would ask the reader for the worker as a machine of single steps, some 130 definitions.
-//!   With one worker it is also the sequential search's.
+//! - One worker makes the same tree by every schedule, so none is followed: the sequential search
+//!   makes it.
 #![tactic(auto)]
 
 mod modes;

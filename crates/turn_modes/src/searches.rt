@@ -1,6 +1,6 @@
 //! The turns of the modes: that of sim by a schedule, and that of bench as a session's.
 
-ghost use Rattle.std.specs.Prelude.{◌≡◌, ◌<◌, ℕ, None, Some, false, true, IfOk, All};
+ghost use Rattle.std.specs.Prelude.{◌≡◌, ◌≢◌, ◌<◌, ℕ, None, Some, false, true, IfOk, All};
 ghost use Rattle.hex_cells.specs.declared.colours.Colour.TheVariants.{Black};
 ghost use Rattle.hex_board.specs.Joined.{winner_of};
 ghost use Rattle.hex_board.specs.Positions.{empty_board, is_empty_at};
@@ -20,6 +20,7 @@ use hex_board::Board;
 use hex_cells::Colour;
 use hex_plan::{Means, Memory, Planned, Turn, plan, turn_shape};
 use search_team::Gate;
+use seq_search::plain_search;
 use sim_run::{SimError, simulate};
 use std::alloc::Global;
 use std::thread::Threads;
@@ -60,14 +61,22 @@ fn decide(planned: Planned, closed: Closed) -> Turn
     Turn::searched(closed, 0, planned, None)
 }
 
-// The tree that the workers of the shape make along a schedule of their numbers.
+// The tree that several workers of the shape make along a schedule of their numbers, or one by the
+// sequential search, which needs none.
 fn follow(alloc: Global, shape: &Shape, list: &[u8]) -> Result<Closed, Memory>
     requires { All (λ worker. worker < shape.now.knobs.workers) list.now }
     ensures shape { IfOk result (λ closed. closed.shape ≡ shape.now) }
     ensures one { shape.now.knobs.workers ≡ 1
         → IfOk result (λ closed. IsTreeOf shape.now closed.words (seq_of shape.now).0) }
-    ensures schedule { IfOk result (λ closed. EndsSchedule shape.now list.now closed.words) }
+    ensures schedule { shape.now.knobs.workers ≢ 1
+        → IfOk result (λ closed. EndsSchedule shape.now list.now closed.words) }
 {
+    if shape.knobs().workers == 1 {
+        return match plain_search(alloc, shape) {
+            Ok(closed) => Ok(closed),
+            Err(_) => Err(Memory),
+        };
+    }
     match simulate(alloc, shape, list) {
         Ok(closed) => Ok(closed),
         Err(SimError::Memory) => Err(Memory),

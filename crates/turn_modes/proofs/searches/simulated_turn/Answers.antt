@@ -23,8 +23,10 @@ returns-clause-turn c =
     c.in_ok-closed.ensures.one))
 
 pub returns-clause-scheduled : goal.returns-clause-scheduled
-returns-clause-scheduled c =
+returns-clause-scheduled c several =
     let knobs = c.args.options.now.knobs in
+    let workers : c.in_ok-prepared.prepared.shape.knobs.workers ≡ knobs.workers
+    = ap (λ (k : Knobs). k.workers) c.in_ok-prepared.ensures.shape.knobs in
     let list : c.deref.result.now ≡ schedule_of knobs.workers knobs.seed c.args.options.now.steps
     = c.deref.ensures.value ∙ c.in_ok-list.ensures.value in
     let tree = c.in_ok-closed.closed in (
@@ -34,7 +36,7 @@ returns-clause-scheduled c =
           (schedule_of knobs.workers knobs.seed c.args.options.now.steps) tree.words)
           (sym c.in_ok-closed.ensures.shape)
           (subst (λ (xs : List ℕ). EndsSchedule c.in_ok-prepared.prepared.shape xs tree.words) list
-          c.in_ok-closed.ensures.schedule),
+          (c.in_ok-closed.ensures.schedule (λ e. several (sym workers ∙ e)))),
     )
 
 pub follow-requires : goal.follow-requires
