@@ -11,7 +11,7 @@ use std::alloc::Global;
 use std::process::Abort;
 use std::rt::HostRuntime;
 use std::test::Fail;
-use win_cert::{LATEST_VERSION, MOST_LINES, SECOND_VERSION, Verdict, claimed_move, read};
+use win_cert::{LATEST_VERSION, MOST_LINES, SECOND_VERSION, Verdict, read};
 
 // That Black wins the empty board of size 2, in the version that its lines need.
 const BLACK_WINS: &[u8] = b"hexcert 2\nsize 2\nplayer black\nblack\nwhite\n\
@@ -127,21 +127,6 @@ fn version_is_what_lines_need(rt: HostRuntime) {
             panic!(rt; "a certificate is found");
         };
         assert_eq!(rt; cert.version, version);
-    }
-}
-
-// The root's report shows the win of whom is to move, and the search has no budget to look for his
-// stone.
-#[test]
-fn a_move_is_claimed(rt: HostRuntime) {
-    for size in [1, 2, 3] {
-        for mover in [Colour::Black, Colour::White] {
-            let Ok(Some(cert)) = find(rt.alloc(), &board(&rt, size, 0), mover, 1) else {
-                panic!(rt; "a certificate is found");
-            };
-            assert_eq!(rt; cert.player, mover);
-            assert!(rt; claimed_move(&cert).is_some());
-        }
     }
 }
 
