@@ -11,7 +11,7 @@ use std::alloc::Global;
 use std::process::Abort;
 use std::rt::HostRuntime;
 use std::test::Fail;
-use win_cert::{LATEST_VERSION, MOST_LINES, SECOND_VERSION, Verdict, read};
+use win_cert::{LATEST_VERSION, MOST_LINES, SECOND_VERSION, Verdict, claimed_move, read};
 
 // That Black wins the empty board of size 2, in the version that its lines need.
 const BLACK_WINS: &[u8] = b"hexcert 2\nsize 2\nplayer black\nblack\nwhite\n\
@@ -89,6 +89,23 @@ fn small_boards_are_decided(rt: HostRuntime) {
             panic!(rt; "there is memory");
         };
         assert_eq!(rt; answer, expected);
+    }
+}
+
+/// A budget that ends as soon as it is known who wins, before a winning stone is: the line that is
+/// claimed is a `move` all the same. On size 2 cases show what follows after it.
+#[test]
+fn claim_is_a_move(rt: HostRuntime) {
+    for size in [2, 3, 4, 5] {
+        let board = board(&rt, size, 0);
+        let Ok(sought) = seek(rt.alloc(), &board, Colour::Black, 1, MOST_LINES) else {
+            panic!(rt; "there is memory");
+        };
+        assert_eq!(rt; sought.by_mover, Some(true), "{size}");
+        let Ok(Some(cert)) = find(rt.alloc(), &board, Colour::Black, 1) else {
+            panic!(rt; "a certificate is found");
+        };
+        assert!(rt; claimed_move(&cert).is_some(), "{size}");
     }
 }
 

@@ -118,8 +118,8 @@ impl Store {
         ensures added { (n : ℕ) → result ≡ Put.Added n → n ≡ length self.old.entries }
         ensures after { self.new ≡ after_put self.old entry result }
     {
-        let held = self.held(entry.x, entry.y, entry.kind);
-        if has_inside(self.entries(), &held, entry.carrier) {
+        let held = self.pair(entry.x, entry.y, entry.kind);
+        if has_inside(self.entries(), held, entry.carrier) {
             return Put::Dominated;
         }
         if held.count == entry.kind.most() {
@@ -154,10 +154,20 @@ impl Store {
         ensures numbers { result ≡ held_of (numbers_of self.now kind x y) }
         ensures few { result.count ≤ most_of kind }
     {
+        *self.pair(x, y, kind)
+    }
+
+    // The same, where the store has them: a copy costs more than the search in it.
+    fn pair(&self, x: u8, y: u8, kind: Kind) -> &Held
+        requires order { x < y }
+        requires elements { y < element_count self.now.elements }
+        ensures numbers { result.now ≡ held_of (numbers_of self.now kind x y) }
+        ensures few { result.now.count ≤ most_of kind }
+    {
         let pair = pair_number(x, y);
         match kind {
-            Kind::Full => self.full[pair],
-            Kind::Semi => self.semi[pair],
+            Kind::Full => &self.full[pair],
+            Kind::Semi => &self.semi[pair],
         }
     }
 

@@ -38,6 +38,10 @@ pub struct Circuit {
 
 // How many of a sum's 2^31st parts a part is.
 fn share_of(part: u32, sum: u64) -> u32 {
+    // Most parts are 0, and a division takes long.
+    if part == 0 {
+        return 0;
+    }
     ((u64::from(part) << SHARE_SHIFT) / sum.max(1) % WORD) as u32
 }
 
@@ -47,9 +51,10 @@ fn shared(share: u32, number: u32) -> u32 {
     ((u64::from(share) * u64::from(number) >> SHARE_SHIFT) % WORD) as u32
 }
 
-// Adds to the first so many numbers of a row as many 2^31st parts of those of another one.
-fn add_shared(row: &mut Row, star: &Row, share: u32, count: usize) {
-    for x in 0..count.min(MOST_ELEMENTS) {
+// Adds to the numbers of a row at places from one to before another as many 2^31st parts of those
+// of another row.
+fn add_shared(row: &mut Row, star: &Row, share: u32, from: usize, to: usize) {
+    for x in from..to.min(MOST_ELEMENTS) {
         row[x] = row[x].wrapping_add(shared(share, star[x]));
     }
 }
@@ -127,35 +132,33 @@ fn take_out(mesh: &mut [Row], element: usize) {
     if element < 2 {
         return;
     }
-    let Some(star) = mesh.get(element).copied() else {
+    let Some(row) = mesh.get_mut(element) else {
         return;
     };
-    let sum = sum_of(&star, element);
-    for x in 0..element {
-        if let Some(row) = mesh.get_mut(x) {
-            let share = share_of(number_at(&star, x), sum);
-            if 0 < share {
-                add_shared(row, &star, share, x);
-            }
+    let star = *row;
+    put_shares(row, sum_of(&star, element), element);
+    let shares = *row;
+    let least = least_end(&star, element);
+    for x in 0..element.min(MOST_ELEMENTS) {
+        let share = shares[x];
+        if 0 < share
+            && let Some(row) = mesh.get_mut(x)
+        {
+            add_shared(row, &star, share, 0, x.min(2));
+            add_shared(row, &star, share, least, x);
         }
     }
-    if let Some(row) = mesh.get_mut(element) {
-        put_shares(row, sum, element);
-    }
 }
 
-// The sum of the first so many numbers of a row.
-fn sum_of(row: &Row, count: usize) -> u64 {
-    let mut sum = 0u64;
-    for x in 0..count.min(MOST_ELEMENTS) {
-        sum = sum.saturating_add(u64::from(row[x]));
+// The least element to which a wire of the star leads, the edges left out; `count` if none does.
+// Elements are numbered by their cells, so few lie between it and the star's own.
+fn least_end(star: &Row, count: usize) -> usize {
+    for x in 2..count.min(MOST_ELEMENTS) {
+        if 0 < star[x] {
+            return x;
+        }
     }
-    sum
-}
-
-// A number of a row.
-fn number_at(row: &Row, place: usize) -> u32 {
-    row.get(place).copied().unwrap_or(0)
+    count
 }
 
 // Puts shares in place of the first so many numbers of a row.

@@ -33,8 +33,8 @@ pub(crate) struct Found {
     entries: Vec<Entry>,
     // The premises of the entries that have four or more, one list behind another.
     many: Vec<u32>,
-    fulls: Vec<Held<MOST_FULL>>,
-    semis: Vec<Held<MOST_SEMI>>,
+    fulls: Held,
+    semis: Held,
     queue: Queue,
     edge_full: Vec<u32>,
     edge_semi: Vec<u32>,
@@ -56,8 +56,8 @@ impl Found {
         let elements = size.cells() as usize + 2;
         let pairs = elements * (elements - 1) / 2;
         let queue = Queue::make(alloc)?;
-        let fulls = vec![in alloc; Held::none(); pairs]?;
-        let semis = vec![in alloc; Held::none(); pairs]?;
+        let fulls = Held::make(alloc, pairs, MOST_FULL)?;
+        let semis = Held::make(alloc, pairs, MOST_SEMI)?;
         Ok(Found {
             limits,
             entries: Vec::new(alloc),
@@ -71,15 +71,10 @@ impl Found {
         })
     }
 
-    /// Takes all away, for a report of so many elements in this region.
-    pub(crate) fn clear(&mut self, elements: usize, region: CellSet) {
-        let count = elements.saturating_mul(elements) / 2;
-        for held in self.fulls.iter_mut().take(count) {
-            held.clear();
-        }
-        for held in self.semis.iter_mut().take(count) {
-            held.clear();
-        }
+    /// Takes all away, for a report in this region.
+    pub(crate) fn clear(&mut self, region: CellSet) {
+        self.fulls.clear();
+        self.semis.clear();
         self.entries.clear();
         self.many.clear();
         self.queue.clear();
@@ -123,14 +118,19 @@ impl Found {
 
     /// Whether a pair has a full entry.
     pub(crate) fn has_full(&self, x: u8, y: u8) -> bool {
-        let held = self.fulls.get(pair_of(x, y));
-        held.is_some_and(|held| 0 < held.count())
+        0 < self.fulls.count(pair_of(x, y))
     }
 
-    /// The semi entries of a pair.
+    /// How many semi entries a pair has.
     #[inline(always)]
-    pub(crate) fn semis(&self, x: u8, y: u8) -> Option<&Held<MOST_SEMI>> {
-        self.semis.get(pair_of(x, y))
+    pub(crate) fn semi_count(&self, x: u8, y: u8) -> usize {
+        self.semis.count(pair_of(x, y))
+    }
+
+    /// The carrier and the number of a pair's semi entry at a place below their count.
+    #[inline(always)]
+    pub(crate) fn semi(&self, x: u8, y: u8, place: usize) -> Option<(CellSet, u32)> {
+        self.semis.at(pair_of(x, y), place)
     }
 
     /// Whether the entry was combined with others.
@@ -178,21 +178,22 @@ impl Found {
     }
 
     fn add_full(&mut self, entry: Entry) -> Result<(), AllocError> {
-        let Some(held) = self.fulls.get_mut(pair_of(entry.x, entry.y)) else {
-            return Ok(());
-        };
-        if let Some(narrower) = held.first_inside(entry.carrier) {
+        let (pair, carrier) = (pair_of(entry.x, entry.y), entry.carrier);
+        if let Some(narrower) = self.fulls.first_inside(pair, carrier) {
             self.shorten(narrower, entry);
             return Ok(());
         }
-        held.give_up_around(entry.carrier, &mut self.entries);
-        if !held.makes_room(self.limits.full, entry.carrier, &mut self.entries) {
+        self.fulls.give_up_around(pair, carrier, &mut self.entries);
+        if !self
+            .fulls
+            .makes_room(pair, self.limits.full, carrier, &mut self.entries)
+        {
             return Ok(());
         }
         let Ok(number) = u32::try_from(self.entries.len()) else {
             return Ok(());
         };
-        held.push(entry.carrier, number);
+        self.fulls.push(pair, carrier, number);
         if entry.is_between_edges() {
             self.edge_full.push(number)?;
         }
@@ -200,27 +201,25 @@ impl Found {
     }
 
     fn add_semi(&mut self, entry: Entry) -> Result<(), AllocError> {
-        let pair = pair_of(entry.x, entry.y);
-        let Some(held) = self.semis.get_mut(pair) else {
-            return Ok(());
-        };
-        if let Some(narrower) = held.first_inside(entry.carrier) {
+        let (pair, carrier) = (pair_of(entry.x, entry.y), entry.carrier);
+        if let Some(narrower) = self.semis.first_inside(pair, carrier) {
             self.shorten(narrower, entry);
             return Ok(());
         }
-        if let Some(full) = self.fulls.get(pair)
-            && full.first_inside(entry.carrier).is_some()
-        {
+        if self.fulls.first_inside(pair, carrier).is_some() {
             return Ok(());
         }
-        held.give_up_around(entry.carrier, &mut self.entries);
-        if !held.makes_room(self.limits.semi, entry.carrier, &mut self.entries) {
+        self.semis.give_up_around(pair, carrier, &mut self.entries);
+        if !self
+            .semis
+            .makes_room(pair, self.limits.semi, carrier, &mut self.entries)
+        {
             return Ok(());
         }
         let Ok(number) = u32::try_from(self.entries.len()) else {
             return Ok(());
         };
-        held.push(entry.carrier, number);
+        self.semis.push(pair, carrier, number);
         self.enlist(entry, number)
     }
 

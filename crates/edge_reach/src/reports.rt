@@ -36,12 +36,12 @@ pub enum Until {
     Threats,
 }
 
-// A full entry as its one end sees it: the other end, the carrier and the number.
+// A full entry as its one end sees it: the carrier, the number and the other end.
 #[derive(Clone, Copy, Debug)]
 struct Way {
-    to: u8,
     carrier: CellSet,
     number: u32,
+    to: u8,
 }
 
 /// Reports, one after another, in the same memory.
@@ -123,7 +123,7 @@ impl Reach {
     /// Makes the report that answers the question.
     pub fn report(&mut self, question: &Question, until: Until) -> Result<(), AllocError> {
         self.elements.load(question);
-        self.found.clear(self.elements.count(), question.region);
+        self.found.clear(question.region);
         for ways in self.ways.iter_mut() {
             ways.clear();
         }
@@ -193,9 +193,9 @@ impl Reach {
     ) -> Result<(), AllocError> {
         if let Some(ways) = self.ways.get_mut(from as usize) {
             ways.push(Way {
-                to,
                 carrier,
                 number,
+                to,
             })?;
         }
         Ok(())
@@ -302,11 +302,8 @@ impl Reach {
     // Lists the semi entries of the pair that were taken before.
     fn list_others(&mut self, number: u32, entry: &Entry) -> Result<(), AllocError> {
         self.others.clear();
-        let Some(held) = self.found.semis(entry.x, entry.y) else {
-            return Ok(());
-        };
-        for place in 0..held.count() {
-            if let Some((carrier, other)) = held.at(place)
+        for place in 0..self.found.semi_count(entry.x, entry.y) {
+            if let Some((carrier, other)) = self.found.semi(entry.x, entry.y, place)
                 && other != number
                 && self.found.is_taken(other)
             {

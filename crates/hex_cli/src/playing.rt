@@ -8,20 +8,18 @@ ghost use Rattle.hex_cli.specs.Modes.{engine_options};
 ghost use Rattle.hex_cli.specs.Playing.{HasGoodTurns};
 ghost use Rattle.hex_devices.specs.Statuses.{stop_in};
 
-use hex_devices::{Devices, End};
-use hex_io::{INPUT_LIMIT, Link, Shelf};
-use hex_plan::{Archive, Means};
+use hex_devices::{DeviceTypes, Devices, End};
+use hex_io::INPUT_LIMIT;
+use hex_plan::Means;
 use hexd_args::Options;
 use htp_session::converse;
-use search_team::Gate;
 use std::alloc::Global;
-use std::thread::Threads;
 
 /// Plays a session over the devices, from an empty board of the size that the options say.
-pub fn play<L: Link, F: Shelf, A: Archive, R: Threads + Sync, G: Gate + Sync>(
+pub fn play<D: DeviceTypes>(
     alloc: Global,
     options: &Options,
-    devices: &mut Devices<'_, '_, '_, '_, L, F, A, R, G>,
+    devices: &mut Devices<'_, '_, '_, '_, D>,
 ) -> End
     requires ranges { value.OptionsInRange options.now }
     ensures plays { HasGoodTurns options.now result

@@ -13,19 +13,15 @@ use crate::kinds::ModeKind;
 use crate::playing::play;
 use crate::single_turns::serve_turn;
 use crate::whole_inputs::serve_input;
-use hex_devices::{Devices, End};
-use hex_io::{Link, Shelf};
-use hex_plan::Archive;
+use hex_devices::{DeviceTypes, Devices, End};
 use hexd_args::{CommandLine, Options};
-use search_team::Gate;
 use std::alloc::Global;
-use std::thread::Threads;
 
 /// Does over the devices what the arguments ask for, in the mode that they name.
-pub fn serve<L: Link, F: Shelf, A: Archive, R: Threads + Sync, G: Gate + Sync>(
+pub fn serve<D: DeviceTypes>(
     alloc: Global,
     line: &CommandLine,
-    devices: &mut Devices<'_, '_, '_, '_, L, F, A, R, G>,
+    devices: &mut Devices<'_, '_, '_, '_, D>,
 ) -> End
     ensures usage { (result ≡ End.Usage) ↔ AreRefused line.now }
     ensures well_formed { result ≢ End.Usage
@@ -42,10 +38,10 @@ pub fn serve<L: Link, F: Shelf, A: Archive, R: Threads + Sync, G: Gate + Sync>(
 }
 
 /// Serves over the devices what the options ask for, in the mode that they say.
-fn in_mode<L: Link, F: Shelf, A: Archive, R: Threads + Sync, G: Gate + Sync>(
+fn in_mode<D: DeviceTypes>(
     alloc: Global,
     options: &Options,
-    devices: &mut Devices<'_, '_, '_, '_, L, F, A, R, G>,
+    devices: &mut Devices<'_, '_, '_, '_, D>,
 ) -> End
     requires ranges { value.OptionsInRange options.now }
     ensures does { ServesBy (kind_of options.now.mode options.now) options.now result

@@ -9,21 +9,18 @@ ghost use Rattle.hex_cli.specs.Modes.{HandsInBy, bench_means, mode_options};
 ghost use Rattle.hex_cli.specs.Runs.{IsUnfetched};
 ghost use Rattle.hex_devices.specs.Statuses.{stop_in};
 
-use hex_devices::{Devices, End};
-use hex_io::{Link, Shelf};
-use hex_plan::{Archive, Means};
+use hex_devices::{DeviceTypes, Devices, End};
+use hex_plan::Means;
 use hexd_args::Options;
-use search_team::Gate;
 use std::alloc::Global;
-use std::thread::Threads;
 use turn_modes::{ModeOptions, TurnMode, hand_in};
 
 /// Hands in the turn of the mode, and its text.
-pub fn serve_turn<L: Link, F: Shelf, A: Archive, R: Threads + Sync, G: Gate + Sync>(
+pub fn serve_turn<D: DeviceTypes>(
     alloc: Global,
     mode: TurnMode,
     options: &Options,
-    devices: &mut Devices<'_, '_, '_, '_, L, F, A, R, G>,
+    devices: &mut Devices<'_, '_, '_, '_, D>,
 ) -> End
     requires ranges { value.OptionsInRange options.now }
     ensures hands { HandsInBy (IsTurnOf mode) options.now result

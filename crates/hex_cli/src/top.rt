@@ -23,13 +23,10 @@ ghost use Rattle.hex_devices.specs.Statuses.{status_of, HasStopped};
 ghost use Rattle.hex_devices.specs.declared.ends.End.{End};
 
 use crate::serving::serve;
-use hex_devices::Devices;
-use hex_io::{Link, Shelf, report};
-use hex_plan::Archive;
+use hex_devices::{DeviceTypes, Devices};
+use hex_io::{Link, report};
 use hexd_args::CommandLine;
-use search_team::Gate;
 use std::alloc::Global;
-use std::thread::Threads;
 
 /// Runs the program that the arguments ask for over the devices, and answers its status.
 ///
@@ -71,10 +68,10 @@ use std::thread::Threads;
 /// faults with 4 and the archive's count of faults with 7, and each is as before with every other
 /// status. A fault of the errors changes nothing of the status. With well-formed arguments memory
 /// may run out at any time, and then the status is 5.
-pub fn run<R: Threads + Sync, L: Link, E: Link, F: Shelf, A: Archive, G: Gate + Sync>(
+pub fn run<D: DeviceTypes, E: Link>(
     alloc: Global,
     line: &CommandLine,
-    devices: &mut Devices<'_, '_, '_, '_, L, F, A, R, G>,
+    devices: &mut Devices<'_, '_, '_, '_, D>,
     errors: &mut E,
 ) -> u8
     ensures status { (end : End) × (result ≡ status_of end) }

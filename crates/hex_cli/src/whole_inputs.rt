@@ -10,12 +10,9 @@ ghost use Rattle.hex_io.specs.declared.limits.TheConstants.{INPUT_LIMIT};
 use crate::audits::audit_traces;
 use crate::certificates::{check_certificate, migrate_certificate};
 use crate::solutions::solve_record;
-use hex_devices::{Devices, End, InputAnswer, InputReader, answer_input};
-use hex_io::{INPUT_LIMIT, Link, Shelf};
-use hex_plan::Archive;
-use search_team::Gate;
+use hex_devices::{DeviceTypes, Devices, End, InputAnswer, InputReader, answer_input};
+use hex_io::INPUT_LIMIT;
 use std::alloc::{AllocError, Global};
-use std::thread::Threads;
 
 /// What is done with the whole input.
 #[derive(Clone, Copy, Debug, PartialEq, Eq)]
@@ -53,10 +50,10 @@ impl InputReader for InputMode {
 }
 
 /// Takes the whole input of the link, and gives the text that answers it.
-pub fn serve_input<L: Link, F: Shelf, A: Archive, R: Threads + Sync, G: Gate + Sync>(
+pub fn serve_input<D: DeviceTypes>(
     alloc: Global,
     mode: InputMode,
-    devices: &mut Devices<'_, '_, '_, '_, L, F, A, R, G>,
+    devices: &mut Devices<'_, '_, '_, '_, D>,
 ) -> End
     ensures answers { AnswersBy (IsTextOf mode) result
         devices.old devices.new }

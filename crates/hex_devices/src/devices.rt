@@ -15,63 +15,64 @@ use search_team::Gate;
 use std::marker::Model;
 use std::thread::Threads;
 
+/// The types of the devices of a run.
+pub trait DeviceTypes {
+    /// Requests come from it, and answers go to it.
+    type Link: Link;
+    /// It has the files that are fetched.
+    type Shelf: Shelf;
+    /// It takes the searched turns.
+    type Archive: Archive;
+    /// Searches run in its threads.
+    type Runtime: Threads + Sync;
+    /// The workers of a search pass it.
+    type Gate: Gate + Sync;
+}
+
+impl<L: Link, F: Shelf, A: Archive, R: Threads + Sync, G: Gate + Sync> DeviceTypes
+    for (L, F, A, R, G) {
+    type Link = L;
+
+    type Shelf = F;
+
+    type Archive = A;
+
+    type Runtime = R;
+
+    type Gate = G;
+}
+
 /// What a run is made over.
 ///
 /// Contracts see what the first three tell, if they do, and their counts of faults. No clause
 /// depends on the runtime or the gate.
 #[derive(Drop)]
-pub struct Devices<
-    'a,
-    'b,
-    'c,
-    'd,
-    L: Link,
-    F: Shelf,
-    A: Archive,
-    R: Threads + Sync,
-    G: Gate + Sync,
-> {
-    /// Requests come from it, and answers go to it.
-    pub link: &'a mut L,
-    /// It has the files that are fetched.
-    pub shelf: &'b mut F,
-    /// It takes the searched turns.
-    pub archive: &'c mut A,
-    /// Searches run in its threads.
-    pub rt: &'d R,
-    /// The workers of a search pass it.
-    pub gate: &'d G,
+pub struct Devices<'a, 'b, 'c, 'd, D: DeviceTypes> {
+    pub link: &'a mut D::Link,
+    pub shelf: &'b mut D::Shelf,
+    pub archive: &'c mut D::Archive,
+    pub rt: &'d D::Runtime,
+    pub gate: &'d D::Gate,
 }
 
-impl<'a, 'b, 'c, 'd, L: Link, F: Shelf, A: Archive, R: Threads + Sync, G: Gate + Sync> Model
-    for Devices<'a, 'b, 'c, 'd, L, F, A, R, G> {
+impl<'a, 'b, 'c, 'd, D: DeviceTypes> Model for Devices<'a, 'b, 'c, 'd, D> {
     ghost use Rattle.hex_devices.specs.Devices.{DevicesState};
 
     ghost Value = { DevicesState };
 
     ghost view = { λ d. record {
-      link = L.told d.link.now;
-      read_faults = L.read_faults d.link.now;
-      write_faults = L.write_faults d.link.now;
-      shelf = F.told d.shelf.now;
-      fetch_faults = F.faults d.shelf.now;
-      turns = A.told d.archive.now;
-      archive_faults = A.faults d.archive.now;
+      link = D.Link.told d.link.now;
+      read_faults = D.Link.read_faults d.link.now;
+      write_faults = D.Link.write_faults d.link.now;
+      shelf = D.Shelf.told d.shelf.now;
+      fetch_faults = D.Shelf.faults d.shelf.now;
+      turns = D.Archive.told d.archive.now;
+      archive_faults = D.Archive.faults d.archive.now;
       names = (d.link.ghost_name, d.shelf.ghost_name, d.archive.ghost_name);
     } };
 }
 
-impl<L: Link, F: Shelf, A: Archive, R: Threads + Sync, G: Gate + Sync> Devices<
-    '_,
-    '_,
-    '_,
-    '_,
-    L,
-    F,
-    A,
-    R,
-    G,
-> {
+impl<D: DeviceTypes> Devices<'_, '_, '_, '_, D> {
     /// Reads at most `room` bytes to the front of the buffer. At a fault no byte was taken.
     pub fn read(&mut self, buffer: &mut [u8], room: usize) -> Result<usize, ReadFault>
         requires some { 0 < room }

@@ -64,7 +64,7 @@ mod stops;
 
 pub use answers::{InputAnswer, InputReader, answer_input};
 pub use arguments::arguments_of;
-pub use devices::Devices;
+pub use devices::{DeviceTypes, Devices};
 pub use ends::End;
 pub use errors::{AnswerError, InputError, OutputError};
 pub use faults::{HandingFault, ReadFault, WriteFault};

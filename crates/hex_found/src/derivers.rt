@@ -92,7 +92,8 @@ impl Deriver {
         Ok(())
     }
 
-    /// Whether a full entry is found inside a region.
+    /// Whether a full entry is found inside a region, or semi ones that have no cell in common, so
+    /// that cases show one.
     pub(crate) fn finds_full(
         &mut self,
         alloc: Global,
@@ -102,7 +103,14 @@ impl Deriver {
         let mut pool = Pool::new(alloc);
         let mut have = Vec::new(alloc);
         self.derive(alloc, stones, region, &mut pool, &mut have)?;
-        Ok(have.iter().any(|derived| derived.kind == Kind::Full))
+        let mut common = region;
+        for derived in have.iter() {
+            if derived.kind == Kind::Full {
+                return Ok(true);
+            }
+            common = common.meet(derived.carrier);
+        }
+        Ok(!have.is_empty() && common.is_empty())
     }
 
     /// Pours a derivation of an entry that the search had by a report, or of narrower ones.

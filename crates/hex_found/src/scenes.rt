@@ -186,8 +186,9 @@ impl Scene {
             .any(|way| matches!(way.by, By::Stone(_, _)))
     }
 
-    /// Lists a semi entry by a stone, if H-search finds one inside the carrier of a derived one.
-    /// There is one on the cell over which that follows.
+    /// Lists a semi entry by a stone, if H-search finds one inside the carrier of a derived one. A
+    /// stone on the cell over which that follows wins; but H-search, which keeps no more entries of
+    /// a pair than its limits say, may not see it.
     pub(crate) fn find_stone(
         &mut self,
         alloc: Global,

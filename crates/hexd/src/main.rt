@@ -19,10 +19,11 @@
 
 use hex_cli::run;
 use hex_devices::{Devices, End, Stop, arguments_of};
-use hex_io::{DirShelf, ErrLink, FileLink, StdLink, report};
+use hex_io::{DirShelf, ErrLink, FileLink, Link, Shelf, StdLink, report};
 use hex_plan::{Archive, NoArchive};
 use hexd_args::CommandLine;
 use search_team::OpenGate;
+use std::alloc::Global;
 use std::process::ExitCode;
 use std::thread::Threads;
 use trace_audit::TraceArchive;
@@ -64,14 +65,36 @@ fn run_with<R: Threads + Sync, A: Archive>(
 ) -> u8 {
     let mut link = StdLink::new(rt);
     let mut shelf = DirShelf::new(rt);
-    let mut devices = Devices {
-        link: &mut link,
-        shelf: &mut shelf,
+    run_over(
+        rt.alloc(),
+        line,
+        &mut link,
+        &mut shelf,
+        archive,
+        threads,
+        errors,
+    )
+}
+
+/// A run over these devices, whose workers pass an open gate. Their types are parameters, since a
+/// type that holds a lifetime is none of [`hex_devices::DeviceTypes`].
+fn run_over<L: Link, F: Shelf, A: Archive, R: Threads + Sync>(
+    alloc: Global,
+    line: &CommandLine,
+    link: &mut L,
+    shelf: &mut F,
+    archive: &mut A,
+    threads: &R,
+    errors: &mut ErrLink,
+) -> u8 {
+    let mut devices: Devices<'_, '_, '_, '_, (L, F, A, R, OpenGate)> = Devices {
+        link,
+        shelf,
         archive,
         rt: threads,
         gate: &OpenGate,
     };
-    run(rt.alloc(), line, &mut devices, errors)
+    run(alloc, line, &mut devices, errors)
 }
 
 /// The archive over the file that the line names for traces, or none if it names none.

@@ -7,14 +7,15 @@ ghost use Rattle.hsearch.specs.Closed.{HoldsEdge};
 ghost use Rattle.std.specs.List.{Contains};
 ghost use Rattle.conn_store.specs.Over.{IsOver};
 ghost use Rattle.conn_store.specs.declared.entries.TheConstants.{MOST_SEMI};
-ghost use Rattle.conn_store.specs.Stores.{CanOr};
+ghost use Rattle.conn_store.specs.Stores.{CanOr, IsDominated, IsPairFull, MayBeAdded, after_put};
+ghost use Rattle.conn_store.specs.declared.entries.Put.{Put};
 ghost use Rattle.hsearch.specs.Listed.{AreListed, IsFullAt};
 ghost use Rattle.hsearch.specs.Taken.{AreBare, AreNearBelow, AreThirdsSettled, AreThreesSettled};
 ghost use Rattle.hsearch.specs.Taken.{AreTwosSettled, Extends, IsAndSettledOver, IsCombined};
 ghost use Rattle.hsearch.specs.Taken.{IsMarked, IsOfPair, IsOrSettled};
 
 use super::listing::list_of;
-use conn_store::{EntryOver, Held, Kind, Store};
+use conn_store::{Entry, EntryOver, Held, Kind, Put, Store};
 use hex_board::Elements;
 
 /// Adds the entries of the pairs that lie side by side.
@@ -111,8 +112,23 @@ fn join(store: &mut Store, first: &EntryOver, other: u32)
     ensures joined { IsAndSettledOver store.new first.now.number other first.now.middle }
 {
     if let Some(entry) = store.by_and(first, other) {
-        let _ = store.add(entry);
+        let _ = put(store, entry);
     }
+}
+
+// Adds the entry, as [`Store::add`] does. That its pair has its full number is told first, if it is
+// so, since it costs less to see than that another entry dominates the new one.
+fn put(store: &mut Store, entry: Entry) -> Put
+    requires { MayBeAdded store.old entry }
+    ensures dominated { result ≡ Put.Dominated → IsDominated store.old entry }
+    ensures full { result ≡ Put.PairFull → IsPairFull store.old entry.kind entry.x entry.y }
+    ensures after { store.new ≡ after_put store.old entry result }
+{
+    let held = store.held(entry.x, entry.y, entry.kind);
+    if held.count == entry.kind.most() {
+        return Put::PairFull;
+    }
+    store.add(entry)
 }
 
 // Adds what follows by OR from entry `number`, a semi entry of the elements `x` and `y`, and
@@ -167,7 +183,7 @@ fn choose_two(store: &mut Store, i: u32, j: u32) -> bool
 {
     match store.by_or_two(i, j) {
         Some(entry) => {
-            let _ = store.add(entry);
+            let _ = put(store, entry);
             true
         }
         None => false,
@@ -183,6 +199,6 @@ fn choose_three(store: &mut Store, i: u32, j: u32, k: u32)
     ensures chosen { IsOrSettled store.new (i ∷ j ∷ k ∷ []) }
 {
     if let Some(entry) = store.by_or_three(i, j, k) {
-        let _ = store.add(entry);
+        let _ = put(store, entry);
     }
 }

@@ -12,16 +12,12 @@ ghost use Rattle.htp_session.specs.declared.answering.Said.{Said};
 
 use crate::asking::respond_to;
 use crate::holding::give_held;
-use hex_devices::{Devices, OutputError};
+use hex_devices::{DeviceTypes, Devices, OutputError};
 use hex_engine::{Answer, Engine, Fail, Memory};
-use hex_io::{Link, Shelf};
-use hex_plan::Archive;
 use htp_line::{
     FRAME, ID_LIMIT, LINE_LIMIT, Parsed, Request, id_text, push_failure, push_success, read_line,
 };
-use search_team::Gate;
 use std::alloc::Global;
-use std::thread::Threads;
 
 /// The most bytes of a brief answer beside its id: those round it, and a message of 17 bytes.
 pub const BRIEF: usize = FRAME + 17;
@@ -38,10 +34,10 @@ pub enum Said {
 /// Answers a raw line, or one that is too long, at the end of `out`, and says whether quit was
 /// answered. What `out` held is given before anything is asked over the devices, and before it
 /// stops because memory ran out.
-pub fn respond<L: Link, F: Shelf, A: Archive, R: Threads + Sync, G: Gate + Sync>(
+pub fn respond<D: DeviceTypes>(
     alloc: Global,
     engine: &mut Engine,
-    devices: &mut Devices<'_, '_, '_, '_, L, F, A, R, G>,
+    devices: &mut Devices<'_, '_, '_, '_, D>,
     raw: Option<&[u8]>,
     out: &mut Vec<u8>,
 ) -> Result<bool, OutputError>

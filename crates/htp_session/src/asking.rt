@@ -8,14 +8,10 @@ ghost use Rattle.htp_session.specs.Calls.Asking.{Asks, Replies, output_of_engine
 
 use crate::answering::{BRIEF, push_answer};
 use crate::holding::give_held;
-use hex_devices::{Devices, OutputError};
+use hex_devices::{DeviceTypes, Devices, OutputError};
 use hex_engine::{Answer, Engine, EngineError};
-use hex_io::{Link, Shelf};
-use hex_plan::Archive;
 use htp_line::{Request, id_text};
-use search_team::Gate;
 use std::alloc::Global;
-use std::thread::Threads;
 
 /// Why nothing is given for a request to which the engine gave no answer.
 fn output_error(error: EngineError) -> OutputError
@@ -29,10 +25,10 @@ fn output_error(error: EngineError) -> OutputError
 
 /// Gives what `out` holds, so that a request which takes long holds back no answer; and then
 /// answers the request at the end of `out`, and says whether quit was answered.
-pub fn respond_to<L: Link, F: Shelf, A: Archive, R: Threads + Sync, G: Gate + Sync>(
+pub fn respond_to<D: DeviceTypes>(
     alloc: Global,
     engine: &mut Engine,
-    devices: &mut Devices<'_, '_, '_, '_, L, F, A, R, G>,
+    devices: &mut Devices<'_, '_, '_, '_, D>,
     request: &Request,
     out: &mut Vec<u8>,
 ) -> Result<bool, OutputError>
@@ -50,10 +46,10 @@ pub fn respond_to<L: Link, F: Shelf, A: Archive, R: Threads + Sync, G: Gate + Sy
 /// Answers a request at the end of `out`, and says whether quit was answered. There is room for a
 /// brief answer before the engine is asked, so the answer of each turn that the archive took is
 /// written.
-fn reply<L: Link, F: Shelf, A: Archive, R: Threads + Sync, G: Gate + Sync>(
+fn reply<D: DeviceTypes>(
     alloc: Global,
     engine: &mut Engine,
-    devices: &mut Devices<'_, '_, '_, '_, L, F, A, R, G>,
+    devices: &mut Devices<'_, '_, '_, '_, D>,
     request: &Request,
     out: &mut Vec<u8>,
 ) -> Result<bool, EngineError>
@@ -69,8 +65,8 @@ fn reply<L: Link, F: Shelf, A: Archive, R: Threads + Sync, G: Gate + Sync>(
 }
 
 /// Asks the engine for its answer to a request.
-fn ask<L: Link, F: Shelf, A: Archive, R: Threads + Sync, G: Gate + Sync>(
-    devices: &mut Devices<'_, '_, '_, '_, L, F, A, R, G>,
+fn ask<D: DeviceTypes>(
+    devices: &mut Devices<'_, '_, '_, '_, D>,
     engine: &mut Engine,
     request: &Request,
 ) -> Result<Answer, EngineError>

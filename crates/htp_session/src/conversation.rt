@@ -6,22 +6,18 @@ ghost use Rattle.htp_session.specs.Calls.Conversation.{Converses};
 
 use crate::session::Session;
 use hex_cells::Size;
-use hex_devices::{Devices, PIECE, Stop};
+use hex_devices::{DeviceTypes, Devices, PIECE, Stop};
 use hex_engine::Options;
-use hex_io::{Link, Shelf};
-use hex_plan::Archive;
-use search_team::Gate;
 use std::alloc::Global;
-use std::thread::Threads;
 
 /// Answers what the link has, up to `limit` bytes. All whole lines are answered before the next
 /// read, also before the one byte after the limit is asked for. What fails first ends it: nothing
 /// is read, written or submitted after a fault.
 ///
 /// The knobs of the options are in their ranges. It refuses nothing else.
-pub fn converse<L: Link, F: Shelf, A: Archive, R: Threads + Sync, G: Gate + Sync>(
+pub fn converse<D: DeviceTypes>(
     alloc: Global,
-    devices: &mut Devices<'_, '_, '_, '_, L, F, A, R, G>,
+    devices: &mut Devices<'_, '_, '_, '_, D>,
     options: &Options,
     size: Size,
     limit: usize,

@@ -7,15 +7,12 @@ ghost use Rattle.hex_devices.specs.Devices.{CountsOnly, shelf_and_archive};
 ghost use Rattle.hex_devices.specs.declared.stops.Stop.{Stop};
 ghost use Rattle.htp_session.specs.Calls.Holding.{Passes};
 
-use hex_devices::{Devices, WriteFault};
-use hex_io::{Link, MOST_HELD, Shelf};
-use hex_plan::Archive;
-use search_team::Gate;
-use std::thread::Threads;
+use hex_devices::{DeviceTypes, Devices, WriteFault};
+use hex_io::MOST_HELD;
 
 /// Gives all that is held. Nothing is held then.
-pub fn give_held<L: Link, F: Shelf, A: Archive, R: Threads + Sync, G: Gate + Sync>(
-    devices: &mut Devices<'_, '_, '_, '_, L, F, A, R, G>,
+pub fn give_held<D: DeviceTypes>(
+    devices: &mut Devices<'_, '_, '_, '_, D>,
     held: &mut Vec<u8>,
 ) -> Result<(), WriteFault>
     ensures gives { GivesAll devices.old devices.new held.old.items result }
@@ -29,8 +26,8 @@ pub fn give_held<L: Link, F: Shelf, A: Archive, R: Threads + Sync, G: Gate + Syn
 }
 
 /// Gives all that is held, if that is more than `MOST_HELD` bytes, and otherwise nothing.
-pub fn relieve<L: Link, F: Shelf, A: Archive, R: Threads + Sync, G: Gate + Sync>(
-    devices: &mut Devices<'_, '_, '_, '_, L, F, A, R, G>,
+pub fn relieve<D: DeviceTypes>(
+    devices: &mut Devices<'_, '_, '_, '_, D>,
     held: &mut Vec<u8>,
 ) -> Result<(), WriteFault>
     ensures passes { OnOk result

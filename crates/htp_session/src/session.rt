@@ -10,14 +10,10 @@ ghost use Rattle.hex_devices.specs.Errors.{stop_of_output};
 use crate::answering::respond;
 use crate::holding::{give_held, relieve};
 use hex_cells::Size;
-use hex_devices::{Devices, OutputError};
+use hex_devices::{DeviceTypes, Devices, OutputError};
 use hex_engine::{Engine, Memory, Options};
-use hex_io::{Link, Shelf};
-use hex_plan::Archive;
 use htp_line::Splitter;
-use search_team::Gate;
 use std::alloc::Global;
-use std::thread::Threads;
 
 /// How far one line went.
 #[derive(Clone, Copy, Debug)]
@@ -58,10 +54,10 @@ impl Session {
     }
 
     /// Answers the line that ended after what is held, and says whether quit was answered.
-    fn answer<L: Link, F: Shelf, A: Archive, R: Threads + Sync, G: Gate + Sync>(
+    fn answer<D: DeviceTypes>(
         &mut self,
         alloc: Global,
-        devices: &mut Devices<'_, '_, '_, '_, L, F, A, R, G>,
+        devices: &mut Devices<'_, '_, '_, '_, D>,
     ) -> Result<bool, OutputError>
         requires ended { self.old.splitter.ended ≡ true }
         ensures writes { WritesAnswer devices.old devices.new self.old.engine self.new.engine
@@ -74,10 +70,10 @@ impl Session {
     }
 
     /// Takes up to one line off the beginning of the piece, and answers it after what is held.
-    fn advance<L: Link, F: Shelf, A: Archive, R: Threads + Sync, G: Gate + Sync>(
+    fn advance<D: DeviceTypes>(
         &mut self,
         alloc: Global,
-        devices: &mut Devices<'_, '_, '_, '_, L, F, A, R, G>,
+        devices: &mut Devices<'_, '_, '_, '_, D>,
         piece: &[u8],
     ) -> Result<Moved, OutputError>
         requires some { 0 < length piece.now }
@@ -101,10 +97,10 @@ impl Session {
 
     /// Takes a piece, and answers each line that ends in it. The last answers are held. It says
     /// whether quit was answered.
-    fn take<L: Link, F: Shelf, A: Archive, R: Threads + Sync, G: Gate + Sync>(
+    fn take<D: DeviceTypes>(
         &mut self,
         alloc: Global,
-        devices: &mut Devices<'_, '_, '_, '_, L, F, A, R, G>,
+        devices: &mut Devices<'_, '_, '_, '_, D>,
         piece: &[u8],
     ) -> Result<bool, OutputError>
         ensures takes { TakesPiece devices.old devices.new self.old self.new piece.now result }
@@ -130,10 +126,10 @@ impl Session {
     /// Takes a piece and answers each line that ends in it. All answers are given then; those
     /// before a `genmove` or a `loadsgf` are given before it is asked. It says whether quit was
     /// answered.
-    pub fn feed<L: Link, F: Shelf, A: Archive, R: Threads + Sync, G: Gate + Sync>(
+    pub fn feed<D: DeviceTypes>(
         &mut self,
         alloc: Global,
-        devices: &mut Devices<'_, '_, '_, '_, L, F, A, R, G>,
+        devices: &mut Devices<'_, '_, '_, '_, D>,
         piece: &[u8],
     ) -> Result<bool, OutputError>
         ensures feeds { Feeds devices.old devices.new self.old self.new piece.now result }
@@ -145,10 +141,10 @@ impl Session {
     }
 
     /// Answers the last line, if no line feed ends it.
-    pub fn finish<L: Link, F: Shelf, A: Archive, R: Threads + Sync, G: Gate + Sync>(
+    pub fn finish<D: DeviceTypes>(
         &mut self,
         alloc: Global,
-        devices: &mut Devices<'_, '_, '_, '_, L, F, A, R, G>,
+        devices: &mut Devices<'_, '_, '_, '_, D>,
     ) -> Result<(), OutputError>
         ensures finishes { Finishes devices.old devices.new self.old result }
         ensures counts { CountsAs stop_of_output devices.old devices.new result }

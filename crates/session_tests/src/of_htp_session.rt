@@ -57,7 +57,7 @@ fn end_of(
     let piece = row.piece.max(1);
     let mut link = MemLink::make(alloc, input, piece, 100_000, 20_000, reads, writes)?;
     let mut shelf = MemShelf::make(alloc, Vec::new(alloc), Vec::new(alloc))?;
-    let mut devices = Devices {
+    let mut devices: Devices<'_, '_, '_, '_, (_, _, _, _, _)> = Devices {
         link: &mut link,
         shelf: &mut shelf,
         archive: &mut NoArchive,

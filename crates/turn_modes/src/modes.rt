@@ -10,9 +10,8 @@ use super::options::ModeOptions;
 use super::positions::bench_position;
 use super::searches::{benchmarked_turn, simulated_turn};
 use super::texts::{bench_text, sim_text};
-use hex_devices::{Devices, OutputError, hand_over};
-use hex_io::{Link, Shelf};
-use hex_plan::{Archive, Memory, Turn};
+use hex_devices::{DeviceTypes, Devices, OutputError, hand_over};
+use hex_plan::{Memory, Turn};
 use search_team::Gate;
 use std::alloc::Global;
 use std::thread::Threads;
@@ -40,11 +39,11 @@ struct ToldTurn {
 /// `Archive` and `Write` come only if the archive or the link counted that fault. It refuses
 /// otherwise only if memory runs out, before the turn is submitted. It reads nothing, and fetches
 /// nothing from the file store.
-pub fn hand_in<L: Link, F: Shelf, A: Archive, R: Threads + Sync, G: Gate + Sync>(
+pub fn hand_in<D: DeviceTypes>(
     alloc: Global,
     mode: TurnMode,
     options: &ModeOptions,
-    devices: &mut Devices<'_, '_, '_, '_, L, F, A, R, G>,
+    devices: &mut Devices<'_, '_, '_, '_, D>,
 ) -> Result<(), OutputError>
     requires { AreInRange options.now.knobs }
     ensures hands { HandsIn (IsTurnOf mode options.now)

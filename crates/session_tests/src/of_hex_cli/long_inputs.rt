@@ -57,7 +57,7 @@ fn run_feeds<R: Threads + Sync + Alloc<A = Global>>(
     };
     let mut errors = link_over(alloc, b"", 100, None, None)?;
     let mut shelf = shelf_with(alloc, b"", None)?;
-    let mut devices = Devices {
+    let mut devices: Devices<'_, '_, '_, '_, (_, _, _, _, _)> = Devices {
         link: &mut link,
         shelf: &mut shelf,
         archive: &mut NoArchive,

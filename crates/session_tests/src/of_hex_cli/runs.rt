@@ -120,7 +120,7 @@ pub(super) fn run_at<R: Threads + Sync + Alloc<A = Global>, G: Gate + Sync>(
     let mut errors = link_over(alloc, b"", 3, None, case.bad_error)?;
     let mut shelf = shelf_with(alloc, case.file, case.bad_fetch)?;
     let mut archive = MemArchive::make(alloc, case.room)?;
-    let mut devices = Devices {
+    let mut devices: Devices<'_, '_, '_, '_, (_, _, _, _, _)> = Devices {
         link: &mut link,
         shelf: &mut shelf,
         archive: &mut archive,

@@ -6,12 +6,12 @@ use Rattle.htp_session.proofs.asking.ask.Goals as goal
 pub returns-clause-asks : goal.returns-clause-asks
 returns-clause-asks g c =
     let old = record c.args.devices.now {
-      shelf = g.F.Shelf.told c.devices.inside.shelf.now;
-      turns = g.A.Archive.told c.devices.inside.archive.now;
+      shelf = g.D.Shelf.Shelf.told c.devices.inside.shelf.now;
+      turns = g.D.Archive.Archive.told c.devices.inside.archive.now;
     } in
     let new = record c.args.devices.now {
-      shelf = g.F.Shelf.told c.line.new.shelf;
-      turns = g.A.Archive.told c.line.new.archive;
+      shelf = g.D.Shelf.Shelf.told c.line.new.shelf;
+      turns = g.D.Archive.Archive.told c.line.new.archive;
     } in
     rw (← c.devices.view_is)
     (asked old new _ _ c.args.request.now c.line.result c.line.ensures.reply c.line.ensures.in_vain c.line.ensures.wants_turn c.line.ensures.no_fetch)

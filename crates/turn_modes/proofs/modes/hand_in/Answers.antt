@@ -15,8 +15,8 @@ returns-in_err-hand_over-clause-hands g c =
     (sym c.deref.ensures.value) c.in_ok-told.ensures in
     rw (p.1, p.2)
     (handed_as (IsTurnOf c.args.mode c.args.options.now)
-    (g.L.Link.told c.devices.inside.link.now) (g.L.Link.told c.hand_over.new.link) _ _
-    (g.A.Archive.told c.devices.inside.archive.now) (g.A.Archive.told c.hand_over.new.archive) _ _
+    (g.D.Link.Link.told c.devices.inside.link.now) (g.D.Link.Link.told c.hand_over.new.link) _ _
+    (g.D.Archive.Archive.told c.devices.inside.archive.now) (g.D.Archive.Archive.told c.hand_over.new.archive) _ _
     turn c.deref.result.now (Err c.in_err-hand_over.field-0.0)
     (search rules) (search rules) (search rules) (search rules) says c.in_err-hand_over.ensures.hands)
 
@@ -27,7 +27,7 @@ returns-clause-hands g c =
     = subst (λ (text : List ℕ). IsTurnOf c.args.mode c.args.options.now turn text)
     (sym c.deref.ensures.value) c.in_ok-told.ensures in
     handed_as (IsTurnOf c.args.mode c.args.options.now)
-    (g.L.Link.told c.devices.inside.link.now) (g.L.Link.told c.hand_over.new.link) _ _
-    (g.A.Archive.told c.devices.inside.archive.now) (g.A.Archive.told c.hand_over.new.archive) _ _
+    (g.D.Link.Link.told c.devices.inside.link.now) (g.D.Link.Link.told c.hand_over.new.link) _ _
+    (g.D.Archive.Archive.told c.devices.inside.archive.now) (g.D.Archive.Archive.told c.hand_over.new.archive) _ _
     turn c.deref.result.now (Ok tt)
     (search rules) (search rules) (search rules) (search rules) says c.in_ok-hand_over.ensures.hands

@@ -1,5 +1,5 @@
 use Rattle.conn_store.proofs.Tables.{few_here, held_here, place_here}
-use Rattle.conn_store.proofs.stores.Store.held.Goals as goal
+use Rattle.conn_store.proofs.stores.Store.pair.Goals as goal
 use Rattle.std.proofs.Common.{◌<◌, length, arith}
 
 pub index-requires : goal.index-requires
