@@ -150,6 +150,20 @@ fn take_out(mesh: &mut [Row], element: usize) {
     }
 }
 
+// The sum of the first so many numbers of a row.
+fn sum_of(row: &Row, count: usize) -> u64 {
+    let mut sum = 0u64;
+    for x in 0..count.min(MOST_ELEMENTS) {
+        sum = sum.saturating_add(u64::from(row[x]));
+    }
+    sum
+}
+
+// A number of a row.
+fn number_at(row: &Row, place: usize) -> u32 {
+    row.get(place).copied().unwrap_or(0)
+}
+
 // The least element to which a wire of the star leads, the edges left out; `count` if none does.
 // Elements are numbered by their cells, so few lie between it and the star's own.
 fn least_end(star: &Row, count: usize) -> usize {
