@@ -16,9 +16,12 @@ from pathlib import Path
 import test
 from test import PROGRAM, ROOT
 
-# 20 stones on the largest board, and ten plans for the next move.
+# 20 stones on the largest board, and ten plans for the next move; and a move after the first 12 by the strength *normal*.
 CELLS = "f6 e8 i3 d7 c9 b7 h8 j5 g2 d3 i9 f9 j8 b4 e2 h4 c5 k7 a10 g11".split()
-PLANS = "".join(f"play {'bw'[at % 2]} {cell}\n" for at, cell in enumerate(CELLS)) + 10 * "genmove b\nundo\n"
+STONES = [f"play {'bw'[at % 2]} {cell}\n" for at, cell in enumerate(CELLS)]
+PLANS = "".join(STONES) + 10 * "genmove b\nundo\n"
+MOVE = "".join(STONES[:12]) + "genmove b\n"
+NORMAL = "htp --weight 0 --playouts 1000 --look 400 --solve 0"
 LARGE = "6-f3"
 RUN = """
     const [words, input, done] = arguments, run = async () => {
@@ -35,6 +38,7 @@ def rows():
     lines = f"{large.count(bytes([10])):,}"
     yield "`bench --size 11 --playouts 100000`, one worker", "bench --size 11 --playouts 100000", b""
     yield "ten plans with 20 stones on size 11", "htp --playouts 1", PLANS.encode()
+    yield "a move of *normal* with 12 stones on size 11", NORMAL, MOVE.encode()
     yield f"`check` of {LARGE}, {lines} lines", "check", large
     yield "`htp` without input", "htp", b""
 

@@ -318,7 +318,8 @@ class Lasting(Pages):
                 browser = self.start(f"{size},a6")
             browser.choose("#strength", name)
             options = settings.strength_options(name, size)
-            self.assertEqual(settings.TABLE["strengths"][name]["solve"]["11" if size == 8 else "6"], options["solve"])
+            positions = settings.TABLE["strengths"][name]["solve"]
+            self.assertEqual(positions["6"] if size == 6 else positions.get("10", positions["11"]), options["solve"])
             self.soon_in(f"look-ahead of {options['look']:,} nodes", "#strength-words")
             browser.press("#hint")
             wanted = {f"--{option}={value}" for option, value in options.items()}
