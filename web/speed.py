@@ -16,12 +16,14 @@ from pathlib import Path
 import test
 from test import PROGRAM, ROOT
 
+import settings
+
 # 20 stones on the largest board, and ten plans for the next move; and a move after the first 12 by the strength *normal*.
 CELLS = "f6 e8 i3 d7 c9 b7 h8 j5 g2 d3 i9 f9 j8 b4 e2 h4 c5 k7 a10 g11".split()
 STONES = [f"play {'bw'[at % 2]} {cell}\n" for at, cell in enumerate(CELLS)]
 PLANS = "".join(STONES) + 10 * "genmove b\nundo\n"
 MOVE = "".join(STONES[:12]) + "genmove b\n"
-NORMAL = "htp --weight 0 --playouts 1000 --look 400 --solve 0"
+NORMAL = " ".join(["htp", *(f"--{name} {value}" for name, value in settings.strength_options("normal", 11).items())])
 LARGE = "6-f3"
 RUN = """
     const [words, input, done] = arguments, run = async () => {
