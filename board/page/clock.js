@@ -10,13 +10,15 @@ class Pace {
   /** `clock` is that of settings.json. Each move gets a multiple of the options `unit`, the first one about as many as `first`,
       in so many seconds, on a size. */
   constructor(clock, {unit, first, seconds, size}) {
-    const {weight, ...counts} = unit, parts = Object.entries(counts).map(([name, number]) => first[name] / number);
-    Object.assign(this, {clock, unit, seconds, size, factor: Math.min(...parts), paces: []});
+    const {weight, ...counts} = unit, given = Object.entries(counts).filter(([name, number]) => first[name] && number);
+    const factor = Math.min(...given.map(([name, number]) => first[name] / number));
+    Object.assign(this, {clock, unit, seconds, size, factor, paces: []});
   }
 
   get options() {
     const {clock: {most}, unit: {weight, ...counts}, factor} = this;
-    const times = number => Math.min(most, Math.max(1, Math.round(number * factor)));
+    // None of what the unit has none of.
+    const times = number => number && Math.min(most, Math.max(1, Math.round(number * factor)));
     return {weight, ...Object.fromEntries(Object.entries(counts).map(([name, number]) => [name, times(number)]))};
   }
 
