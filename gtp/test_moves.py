@@ -139,10 +139,12 @@ def clock_faults():
                 told = quietly(lambda: took.extend(game_by(table, size, line, size * size // 2)))
                 if not holds(took, main, period, moves):
                     yield f"{line}, size {size}, {speed} s a node: {[round(it, 2) for it in took]}"
-                numbers = [int(words[name]) for words in table.asked for name in ("look", "solve", "playouts")]
-                if not 1 <= min(numbers) <= max(numbers) <= 1_000_000:
-                    yield f"{line}, size {size}, {speed} s a node: it asks for {min(numbers)} to {max(numbers)}"
                 quick = settings.strength_options("quick", size)
+                asked = [(name, int(words[name])) for words in table.asked for name in ("look", "solve", "playouts")]
+                # What a strength has none of stays none.
+                numbers = [number for name, number in asked if quick[name] or number]
+                if not 1 <= min(numbers) <= max(numbers) <= 1_000_000 or {name for name, number in asked if number and not quick[name]}:
+                    yield f"{line}, size {size}, {speed} s a node: it asks for {min(numbers)} to {max(numbers)}"
                 if {name: int(table.asked[0][name]) for name in quick} != quick:
                     yield f"{line}, size {size}: the first search is {table.asked[0]}"
                 if told.count(b"can't be repeated") != 1:
