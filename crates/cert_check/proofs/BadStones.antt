@@ -1,6 +1,6 @@
 -- Whether all cells of a `put` are empty.
 use Rattle.std.proofs.Common.{◌≡◌, ℕ, ◌<◌, ◌^◌, ◌&&◌, ◌↔◌, not, IsTrue, true, false, Bool, refl}
-use Rattle.std.proofs.Common.{sym, ◌∙◌, ap, arith, nat_lt, subst}
+use Rattle.std.proofs.Common.{sym, ◌∙◌, ap, arith, nat_lt}
 use Rattle.std.specs.List.{list_any}
 use Rattle.std.proofs.lemmas.Bool.{ltb-true, ltb-false, and_parts, and_from, false_from_ne_true}
 use Rattle.std.proofs.lemmas.Bool.{true_from_ne_false, false≢true, true≢false}
@@ -19,7 +19,8 @@ is_stone_in p cells = list_any (λ k. has cells k && not (is_empty_at p k)) cell
 pub none_in : (p : Position) (cells k : ℕ) → (has cells k ≡ true → k < MOST_CELLS)
     → is_stone_in p cells ≡ false → has cells k ≡ true → is_empty_at p k ≡ true
 none_in p cells k small h t = true_from_ne_false (is_empty_at p k) (λ f. true≢false (
-    sym (any_in (λ j. has cells j && not (is_empty_at p j)) 0 MOST_CELLS k (omega arith) (small t) (and_from (has cells k) (not (is_empty_at p k)) t (ap not f))) ∙ h))
+    sym (any_in (λ j. has cells j && not (is_empty_at p j)) 0 MOST_CELLS k (omega arith) (small t)
+    (and_from (has cells k) (not (is_empty_at p k)) t (ap not f))) ∙ h))
 
 pub bad_stone_is : (p : Position) (cells : ℕ) (inside : Bool)
     → ((k : ℕ) → has cells k ≡ true → k < MOST_CELLS)
@@ -39,7 +40,7 @@ pub inside_of : (p : Position) (cells empties : ℕ) (inside : Bool)
 inside_of p cells empties inside e h
     = (λ t k q. sym (e k) ∙ h.0 t k q, λ f. h.1 (λ k q. e k ∙ f k q))
 
-pub small_set : (cells bits : ℕ) → bits ≡ cells → bits < 2 ^ MOST_CELLS → (k : ℕ)
-    → has cells k ≡ true → k < MOST_CELLS
-small_set cells bits e l k h = ltb-true k MOST_CELLS (true_from_ne_false (nat_lt k MOST_CELLS) (λ f.
-    false≢true (sym (has_above cells MOST_CELLS k (subst (λ v. v < 2 ^ MOST_CELLS) e l) (ltb-false k MOST_CELLS f)) ∙ h)))
+pub small_set : (cells : ℕ) → cells < 2 ^ MOST_CELLS → (k : ℕ) → has cells k ≡ true
+    → k < MOST_CELLS
+small_set cells l k h = ltb-true k MOST_CELLS (true_from_ne_false (nat_lt k MOST_CELLS) (λ f.
+    false≢true (sym (has_above cells MOST_CELLS k l (ltb-false k MOST_CELLS f)) ∙ h)))

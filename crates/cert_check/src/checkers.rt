@@ -74,8 +74,7 @@ impl Checker {
             Err(_refused) => return Err(Memory),
         }
         if let Line::Put(cells) = line {
-            // Brings what the type keeps into scope.
-            let _bits = cells.bits();
+            cells.keeps();
             self.scope = *cells;
             self.board = with_stones(&self.base, self.player, *cells);
             number_elements(&mut self.elements, &self.board, self.player);

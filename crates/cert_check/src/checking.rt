@@ -54,8 +54,5 @@ pub fn check(alloc: Global, cert: &Cert) -> Result<Verdict, Memory>
 fn boards_are_positions(board: &Board)
     ensures { IsPosition board.now.size board.now.black board.now.white }
 {
-    // Brings what the type keeps into scope.
-    let _size = board.size();
-    let _black = board.stones(Colour::Black);
-    let _white = board.stones(Colour::White);
+    board.keeps();
 }

@@ -14,8 +14,7 @@ impl Checker {
     pub fn put(&self, cells: CellSet) -> Result<(), Reason>
         ensures { AllowsLine self.now (Line.Put cells) result }
     {
-        // Brings what the type keeps into scope.
-        let _bits = cells.bits();
+        cells.keeps();
         if cells.inside(self.base.empties()) {
             Ok(())
         } else {

@@ -47,8 +47,8 @@ impl Store {
     pub fn make(alloc: Global, board: &Board, colour: Colour) -> Result<Store, Memory>
         ensures { IfOk result (λ store. store ≡ empty_store board.now colour) }
     {
-        // Brings what the type keeps into scope: 1 to 121 cells, and stones that lie on them.
-        let _size = board.size();
+        // The board has 1 to 121 cells, and the stones lie on them.
+        board.keeps();
         let _stones = board.stones(colour);
         let elements = board.elements(colour);
         let pairs = pair_count(elements.count());
@@ -169,6 +169,15 @@ impl Store {
             Kind::Full => &self.full[pair],
             Kind::Semi => &self.semi[pair],
         }
+    }
+
+    /// Does nothing: that the store is sound, and its entries true, is known after the call.
+    #[inline]
+    pub fn keeps(&self)
+        ensures sound { IsSound self.now }
+        ensures true_entries { AreTrue self.now }
+    {
+        let _entries = self.entries();
     }
 
     /// The entries, in the order in which they came. Each is valid and follows from earlier ones,

@@ -5,8 +5,8 @@ ghost use Rattle.std.specs.Prelude.{IsTrue, MatchOption};
 ghost use Rattle.hex_cells.specs.Sets.{has};
 ghost use Rattle.hex_cells.specs.Colours.{other_of};
 ghost use Rattle.hex_board.specs.Joined.{Joined, is_joined, winner_of};
-ghost use Rattle.hex_board.specs.Positions.{Apart, HasStone, Within, empty_board, stones_of};
-ghost use Rattle.hex_board.specs.Positions.{is_empty_at, placed, stone_at};
+ghost use Rattle.hex_board.specs.Positions.{Apart, HasStone, IsPosition, Within, empty_board};
+ghost use Rattle.hex_board.specs.Positions.{is_empty_at, placed, stone_at, stones_of};
 
 use super::boards::Board;
 use super::joined;
@@ -21,8 +21,7 @@ impl Board {
         requires white_on { Within size white }
         ensures { result ≡ record { size = size; black = black; white = white } }
     {
-        // Brings what the type keeps into scope.
-        let _n = size.get();
+        size.keeps();
         Board { size, black, white }
     }
 
@@ -32,6 +31,15 @@ impl Board {
         ensures nobody { winner_of result ≡ None }
     {
         Board::of(size, CellSet::none(), CellSet::none())
+    }
+
+    /// Does nothing: what each board keeps is known after the call.
+    #[inline]
+    pub fn keeps(&self)
+        ensures position { IsPosition self.now.size self.now.black self.now.white }
+        ensures range { (1 ≤ self.now.size) × (self.now.size ≤ Size.MAX) }
+    {
+        let _ = &self.size;
     }
 
     /// The size of the board.

@@ -135,7 +135,7 @@ impl Numbering {
         ensures other { (result ≡ None)
             ↔ (has (stones_of self.now.board (other_of self.now.player)) cell ≡ true) }
     {
-        // Brings what the type keeps into scope.
+        // The heads are those of the board's elements.
         let _heads = self.heads;
         self.find(cell)
     }

@@ -43,6 +43,12 @@ impl Size {
         }
     }
 
+    /// Does nothing: the range of each size is known after the call.
+    #[inline]
+    pub fn keeps(self)
+        ensures range { (1 ≤ self) × (self ≤ Size.MAX) }
+    {}
+
     /// The number of columns, and of rows: 1 to 11.
     pub fn get(self) -> u32
         ensures value { result ≡ self }

@@ -29,6 +29,12 @@ impl Model for CellSet {
 }
 
 impl CellSet {
+    /// Does nothing: that a set has no cell from [`MOST_CELLS`] on is known after the call.
+    #[inline]
+    pub fn keeps(self)
+        ensures range { self < 2 ^ MOST_CELLS }
+    {}
+
     /// The set as a number: bit k is set exactly if cell k is in it.
     pub fn bits(self) -> u128
         ensures value { result ≡ self }

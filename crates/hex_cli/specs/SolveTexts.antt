@@ -16,7 +16,7 @@ use Rattle.win_cert.specs.declared.certs.TheConstants.{MOST_LINES}
 use Rattle.hex_game.specs.Games.{GameData, board_of}
 use Rattle.hex_game.specs.declared.moves.Step.{Step}
 use Rattle.sgf_game.specs.RecordOf.{IsGameOf}
-use Rattle.hex_solve.specs.Deciding.{lines_needed, need}
+use Rattle.hex_solve.specs.Deciding.{lines_needed, positions_needed}
 use Rattle.hex_found.specs.Found.{Certifies}
 use Rattle.hex_solve.specs.Solved.{IsOpenBoard, IsOwnReport, few_cells}
 use Rattle.hex_solve.specs.declared.answers.Solved.{Solved}
@@ -52,11 +52,12 @@ CanBeWritten (Open full) = Unit {0}
 -- full board keeps the stones of p, and nobody is joined on it.
 abbrev pub MayBeAnswered : Bool → ℕ → Position → Colour → Solved → Type 0
 MayBeAnswered hsearch budget p mover (Won winner cert) = Wins winner p mover
-    × Certifies p mover winner cert × (hsearch ≡ false → length cert.lines ≤ 2 * need p mover)
+    × Certifies p mover winner cert
+    × (hsearch ≡ false → length cert.lines ≤ 2 * positions_needed p mover)
 MayBeAnswered hsearch budget p mover (Unknown spent own) =
-    (spent ≡ budget) × (budget < need p mover) × IsOwnReport p mover hsearch own
+    (spent ≡ budget) × (budget < positions_needed p mover) × IsOwnReport p mover hsearch own
 MayBeAnswered hsearch budget p mover (TooLong winner lines) = Wins winner p mover
-    × (MOST_LINES < lines) × (lines ≤ 2 * need p mover) × (few_cells < empty_count p)
+    × (MOST_LINES < lines) × (lines ≤ 2 * positions_needed p mover) × (few_cells < empty_count p)
     × (lines < 2 ^ 64 - 1 → lines ≡ lines_needed winner p mover)
 MayBeAnswered hsearch budget p mover (Open full) = IsOpenBoard p full
 

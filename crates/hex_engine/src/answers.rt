@@ -4,7 +4,7 @@ ghost use Rattle.std.specs.Prelude.{◌≡◌};
 ghost use Rattle.hex_engine.specs.Replies.{message};
 ghost use Rattle.hex_engine.specs.declared.answers.EngineError.TheVariants.{Memory};
 
-use htp_line::Bytes;
+use htp_line::HtpText;
 use std::alloc::AllocError;
 use thiserror::Error;
 
@@ -60,7 +60,7 @@ impl Fail {
 #[derive(Debug, Drop)]
 pub enum Answer {
     /// A success with this text.
-    Done(Bytes),
+    Done(HtpText),
     /// A success without text, after which nothing more is answered.
     Quit,
     /// A failure.

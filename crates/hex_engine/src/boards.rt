@@ -11,13 +11,13 @@ use super::forms::{MoveWord, read_colour, read_move, read_sizes};
 use super::telling::empty_answer;
 use hex_cells::{Colour, Size};
 use hex_game::Game;
-use htp_line::Bytes;
+use htp_line::HtpText;
 use std::alloc::Global;
 
 /// `boardsize`, with a number or two.
 /// Fails, in order: `syntax error`; `unacceptable size`.
 /// Answers nothing; the board of that size is empty, and so is the history.
-pub fn resize(alloc: Global, game: &mut Game, args: &[Bytes]) -> Answer
+pub fn resize(alloc: Global, game: &mut Game, args: &[HtpText]) -> Answer
     ensures { ReactsQuietly (resized game.old (sizes_of args.now)) result game.new }
 {
     match read_sizes(args) {
@@ -54,7 +54,7 @@ pub fn clear(alloc: Global, game: &mut Game) -> Answer
 /// `play`, with a colour and a move.
 /// Fails, in order: `syntax error`; `illegal move`.
 /// Answers nothing; the history has this step more.
-pub fn play(alloc: Global, game: &mut Game, args: &[Bytes]) -> Answer
+pub fn play(alloc: Global, game: &mut Game, args: &[HtpText]) -> Answer
     ensures { ReactsQuietly (playing game.old args.now) result game.new }
 {
     let [colour, what] = args else {

@@ -9,7 +9,7 @@ ghost use Rattle.hex_engine.specs.Forms.{move_word_of, sizes_of, IsSaidOf};
 
 use hex_cells::{Colour, Size, read_vertex};
 use hex_game::Move;
-use htp_line::{Bytes, read_number};
+use htp_line::{HtpText, read_number};
 
 /// What a move's word says.
 #[derive(Clone, Copy)]
@@ -77,7 +77,7 @@ fn is_first_digit(byte: u8) -> bool
 }
 
 /// The columns and the rows that one number or two ask for.
-pub fn read_sizes(args: &[Bytes]) -> Option<(u32, u32)>
+pub fn read_sizes(args: &[HtpText]) -> Option<(u32, u32)>
     ensures { result ≡ sizes_of args.now }
 {
     match args {
@@ -94,7 +94,7 @@ pub fn read_sizes(args: &[Bytes]) -> Option<(u32, u32)>
 }
 
 /// The colour, if it is the only argument.
-pub fn lone_colour(args: &[Bytes]) -> Option<Colour>
+pub fn lone_colour(args: &[HtpText]) -> Option<Colour>
     ensures { result ≡ lone_colour args.now }
 {
     match args {
@@ -105,7 +105,7 @@ pub fn lone_colour(args: &[Bytes]) -> Option<Colour>
 
 /// The name of a file, if it is the only argument and valid UTF-8.
 #[tactic(auto, using(crate::proofs::Names::name_is, crate::proofs::Names::name_is_none))]
-pub fn file_name(args: &[Bytes]) -> Option<&str>
+pub fn file_name(args: &[HtpText]) -> Option<&str>
     ensures { option_map (λ name. name.now) result ≡ file_named args.now }
 {
     match args {

@@ -20,7 +20,7 @@ use super::state::Engine;
 use hex_cells::{Cell, Colour};
 use hex_game::Move;
 use hex_plan::{Archive, TurnTexts, may_move};
-use htp_line::Bytes;
+use htp_line::HtpText;
 use search_team::Gate;
 use std::thread::Threads;
 
@@ -32,7 +32,7 @@ impl Engine {
     pub(super) fn generate<R: Threads + Sync, A: Archive, G: Gate + Sync>(
         &mut self,
         rt: &R,
-        args: &[Bytes],
+        args: &[HtpText],
         archive: &mut A,
         gate: &G,
     ) -> Result<Answer, EngineError>

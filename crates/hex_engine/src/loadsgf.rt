@@ -14,7 +14,7 @@ use super::state::Engine;
 use super::telling::empty_answer;
 use hex_game::Game;
 use hex_io::{Shelf, ShelfError};
-use htp_line::Bytes;
+use htp_line::HtpText;
 use sgf_game::read_game;
 use std::alloc::Global;
 
@@ -32,7 +32,11 @@ impl Engine {
     /// `loadsgf`, with a file's name.
     /// Fails, in order: `syntax error`; `read fault`; `cannot load file`.
     /// Answers nothing; the game is the record's.
-    pub(super) fn load<F: Shelf>(&mut self, args: &[Bytes], shelf: &mut F) -> Result<Answer, Memory>
+    pub(super) fn load<F: Shelf>(
+        &mut self,
+        args: &[HtpText],
+        shelf: &mut F,
+    ) -> Result<Answer, Memory>
         ensures reply { IfOk result (λ answer. AnswersLoad
             self.old args.now (F.told shelf.old) (F.told shelf.new) answer self.new) }
         ensures brief { IfOk result IsBrief }

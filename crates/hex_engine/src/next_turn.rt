@@ -13,7 +13,7 @@ use super::state::Engine;
 use super::texts::vertex_text;
 use hex_cells::Colour;
 use hex_plan::{Turn, TurnTexts, turn_texts};
-use htp_line::Bytes;
+use htp_line::HtpText;
 use search_team::Gate;
 use std::thread::Threads;
 use turn_search::decided_turn;
@@ -24,7 +24,7 @@ use turn_search::decided_turn;
 pub struct Prepared {
     pub turn: Turn,
     pub texts: TurnTexts,
-    pub vertex: Bytes,
+    pub vertex: HtpText,
 }
 
 impl Engine {

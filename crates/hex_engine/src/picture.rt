@@ -41,8 +41,7 @@ fn push_line(text: &mut Vec<u8>, board: &Board, row: u32) -> Result<(), AllocErr
     requires { row < board.now.size }
     ensures { OnOk result (text.new.items ≡ text.old.items ++ 10 ∷ row_line board.now row) }
 {
-    // Brings what the type keeps into scope.
-    let _size = board.size();
+    board.keeps();
     text.push(b'\n')?;
     push_spaces(text, row)?;
     push_in_two_places(text, row + 1)?;

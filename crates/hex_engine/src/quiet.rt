@@ -11,7 +11,7 @@ use super::commands::{Command, Quiet};
 use super::last_turn::{tell_certificate, tell_look, tell_plan, tell_report};
 use super::state::Engine;
 use super::telling::{know, list, name_of_winner, print_game, show, tell};
-use htp_line::{Bytes, Request};
+use htp_line::{HtpText, Request};
 
 impl Engine {
     /// Answers a request that uses nothing up, as [`Engine::line`] does. `None` exactly if it asks
@@ -35,7 +35,7 @@ impl Engine {
     /// Does what a command says that uses nothing up.
     /// Fails: `syntax error`, if it takes no arguments and there are some; else as its handler.
     #[tactic(auto, unfolding(crate::specs::QuietReplies::quiet_reaction))]
-    pub(super) fn obey(&mut self, command: Quiet, args: &[Bytes]) -> Result<Answer, Memory>
+    pub(super) fn obey(&mut self, command: Quiet, args: &[HtpText]) -> Result<Answer, Memory>
         ensures ok { IfOk result
             (λ answer. Reacts
             (in_conversation self.old (quiet_reaction self.old command args.now)) answer self.new) }
@@ -49,7 +49,7 @@ impl Engine {
     }
 
     /// Hands the arguments, if it takes any, to the handler of the command.
-    fn handle(&mut self, command: Quiet, args: &[Bytes]) -> Result<Answer, Memory>
+    fn handle(&mut self, command: Quiet, args: &[HtpText]) -> Result<Answer, Memory>
         ensures ok { IfOk result
             (λ answer. Reacts
             (in_conversation self.old (obeyed_quietly self.old command args.now)) answer self.new) }

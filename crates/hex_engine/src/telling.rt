@@ -17,7 +17,7 @@ use super::commands::{Command, command_list};
 use super::picture::board_text;
 use hex_board::Board;
 use hex_game::Game;
-use htp_line::Bytes;
+use htp_line::HtpText;
 use sgf_game::game_text;
 use std::alloc::Global;
 
@@ -26,14 +26,14 @@ pub fn empty_answer(alloc: Global) -> Answer
     ensures tells { Tells (Done []) result }
     ensures brief { IsBrief result }
 {
-    Answer::Done(Bytes::of(Vec::new(alloc)))
+    Answer::Done(HtpText::of(Vec::new(alloc)))
 }
 
 /// A success with this text; `name`, `protocol_version`, `version` and `winner` answer one.
 pub fn tell(alloc: Global, text: &[u8]) -> Result<Answer, Memory>
     ensures { IfOk result (Tells (Done text.now)) }
 {
-    Ok(Answer::Done(Bytes::of(text.to_vec(alloc)?)))
+    Ok(Answer::Done(HtpText::of(text.to_vec(alloc)?)))
 }
 
 /// The text of `winner`.
@@ -48,7 +48,7 @@ pub fn name_of_winner(board: &Board) -> &'static [u8]
 
 /// `known_command`, with a word. Fails: `syntax error`. Answers `true` exactly if a command has
 /// this name, else `false`.
-pub fn know(alloc: Global, args: &[Bytes]) -> Result<Answer, Memory>
+pub fn know(alloc: Global, args: &[HtpText]) -> Result<Answer, Memory>
     ensures { IfOk result (Tells (knowing args.now)) }
 {
     let [word] = args else {
@@ -65,7 +65,7 @@ pub fn know(alloc: Global, args: &[Bytes]) -> Result<Answer, Memory>
 pub fn list(alloc: Global) -> Result<Answer, Memory>
     ensures { IfOk result (Tells (Done all_names)) }
 {
-    Ok(Answer::Done(Bytes::of(command_list(alloc)?)))
+    Ok(Answer::Done(HtpText::of(command_list(alloc)?)))
 }
 
 /// `printsgf`.
@@ -84,5 +84,5 @@ pub fn print_game(alloc: Global, game: &Game) -> Result<Answer, Memory>
 pub fn show(alloc: Global, board: &Board) -> Result<Answer, Memory>
     ensures { IfOk result (Tells (Done (picture board.now))) }
 {
-    Ok(Answer::Done(Bytes::of(board_text(alloc, board)?)))
+    Ok(Answer::Done(HtpText::of(board_text(alloc, board)?)))
 }

@@ -96,9 +96,9 @@ IsOnBoard now (Stone cell) = cell < now.size * now.size
 IsOnBoard now Swap = Unit {0}
 
 -- a stone's cell is empty, and a swap answers Black's one stone
-abbrev pub Fits : Position → List Step → Move → Type 0
-Fits now steps (Stone cell) = is_empty_at now cell ≡ true
-Fits now steps Swap = is_some (lone_black_stone steps) ≡ true
+abbrev pub IsPlayable : Position → List Step → Move → Type 0
+IsPlayable now steps (Stone cell) = is_empty_at now cell ≡ true
+IsPlayable now steps Swap = is_some (lone_black_stone steps) ≡ true
 
 abbrev pub new_game : Position → GameData
 new_game start = record { start = start; steps = [] }

@@ -139,8 +139,7 @@ impl Game {
         ensures legal { AreLegal self.now.start self.now.steps }
         ensures few { length self.now.steps ≤ MOST_STEPS }
     {
-        // Brings what the type keeps into scope: that the two sets of stones are apart bounds
-        // the steps.
-        let _stones = self.board.stones(Colour::Black);
+        // That the two sets of stones are apart bounds the steps.
+        self.board.keeps();
     }
 }

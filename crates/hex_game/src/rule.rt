@@ -6,7 +6,7 @@ ghost use Rattle.hex_game.specs.Moves.{lone_black_stone};
 ghost use Rattle.hex_board.specs.Positions.{placed, is_empty_at};
 ghost use Rattle.hex_game.specs.Kept.{IsFew, stones_on};
 ghost use Rattle.hex_game.specs.Games.{IsOnBoard, is_over, may_swap};
-ghost use Rattle.hex_game.specs.Games.{refusal_on, moved, swapped, mirrored, Fits};
+ghost use Rattle.hex_game.specs.Games.{refusal_on, moved, swapped, mirrored, IsPlayable};
 
 use super::moves::{MOST_STEPS, Move, PlayError, Step};
 use hex_board::Board;
@@ -74,7 +74,7 @@ fn lone_stone(steps: &[Step]) -> Option<Cell>
 
 /// The board after a step that is legal there.
 pub fn board_after(now: &Board, steps: &[Step], step: &Step) -> Board
-    requires fits { Fits now.now steps.now step.now.what }
+    requires playable { IsPlayable now.now steps.now step.now.what }
     requires lone { (cell : ℕ) → lone_black_stone steps.now ≡ Some cell
         → cell < now.now.size * now.now.size }
     ensures value { result ≡ moved now.now steps.now step.now.colour step.now.what }
@@ -97,10 +97,8 @@ fn with_stone(now: &Board, colour: Colour, cell: Cell) -> Board
     ensures room { stones_on now.now < MOST_CELLS }
     ensures more { stones_on result ≡ stones_on now.now + 1 }
 {
-    // Brings what the type keeps into scope: at most 121 cells and two sets that are apart leave
-    // room for one more stone.
-    let _size = now.size();
-    let _stones = now.stones(Colour::Black);
+    // At most 121 cells and two sets that are apart leave room for one more stone.
+    now.keeps();
     let mut next = *now;
     next.place(colour, cell);
     next

@@ -1,12 +1,12 @@
 -- What plans say.
-use Rattle.std.proofs.Common.{◌≡◌, ◌≤◌, ◌⊎◌, ℕ, Bool, true, false, Option, Some, None, refl, sym}
-use Rattle.std.proofs.Common.{◌∙◌, ap, subst, inl, inr, arith}
+use Rattle.std.proofs.Common.{◌≡◌, ◌⊎◌, ℕ, Bool, true, false, Option, Some, None, refl, sym}
+use Rattle.std.proofs.Common.{◌∙◌, ap, subst, inl, inr}
 use Rattle.std.specs.Prelude.{is_some}
 use Rattle.std.specs.Option.{ForSome}
 use Rattle.hex_cells.specs.declared.colours.Colour.{Colour}
 use Rattle.hex_board.specs.Elements.{PlayerBoard}
 use Rattle.hex_board.specs.Joined.{winner_of}
-use Rattle.hex_board.specs.Positions.{Apart, IsPosition, Position, Within, is_empty_at}
+use Rattle.hex_board.specs.Positions.{IsPosition, Position, is_empty_at}
 use Rattle.conn_store.specs.Entries.{IsValid}
 use Rattle.conn_store.specs.Stores.{StoreData}
 use Rattle.conn_store.specs.declared.entries.Entry.{Entry}
@@ -191,16 +191,3 @@ pub tree_of_turn : (t : TurnData) (plan : Plan) → DecidesBy t plan
     (λ (tree : ClosedTree). (tree.shape.board ≡ t.board) × (tree.shape.player ≡ t.player))
 tree_of_turn t (Win cert cell) h tree e = let none : t.closed ≡ None = h.1 in absurd (cc)
 tree_of_turn t (Search threats allowed lost) h tree e = ((h tree e).board, (h tree e).player)
-
--- a board that keeps what each board keeps
-pub is_position : (p : Position) (size black white : ℕ) → size ≡ p.size → black ≡ p.black
-    → white ≡ p.white → 1 ≤ size → size ≤ 11 → Within p.size black → Apart black p.white
-    → Within p.size white
-    → IsPosition p.size p.black p.white
-is_position p size black white n b w least most black_on apart white_on = record {
-  least = omega (arith, n, least);
-  most = omega (arith, n, most);
-  apart = subst (λ v. Apart v p.white) b apart;
-  black_on = subst (Within p.size) b black_on;
-  white_on = subst (Within p.size) w white_on;
-}

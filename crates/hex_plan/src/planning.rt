@@ -100,8 +100,7 @@ fn win_plan(alloc: Global, own: Report, number: u32) -> Result<Planned, Memory>
 {
     let cert = cut(alloc, &own, number)?;
     let cell = winning_cell(&own, number);
-    // Brings what the type keeps into scope.
-    let _store = own.store();
+    own.keeps();
     Ok(Planned {
         plan: Plan::Win { cert, cell },
         own: Some(own),

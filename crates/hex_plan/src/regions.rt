@@ -51,8 +51,6 @@ pub(crate) fn empties_of(board: &Board) -> CellSet
     ensures { HasEmpties result board.now }
 {
     let empties = board.empties();
-    // Brings what the type keeps into scope: a set of cells has no bit from that of the last cell
-    // on.
-    let _bits = empties.bits();
+    empties.keeps();
     empties
 }

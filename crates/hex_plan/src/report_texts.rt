@@ -63,8 +63,8 @@ fn tree_text(alloc: Global, closed: &Closed, size: Size) -> Result<Vec<u8>, Allo
     requires { closed.now.shape.board.size ≡ size }
     ensures { IfOk result (λ text. text.items ≡ report_on size closed.now) }
 {
-    // Brings what the type keeps into scope: the cells of the root's children lie on the board.
-    let _words = closed.words();
+    // The cells of the root's children lie on the board.
+    closed.keeps();
     let Ok(rows) = report(alloc, closed) else {
         return Err(AllocError);
     };

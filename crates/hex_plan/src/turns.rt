@@ -68,9 +68,7 @@ fn decided(closed: &Closed) -> Cell
     ensures best { IsBest closed.now.shape closed.now.words result }
     ensures empty { is_empty_at closed.now.shape.board result ≡ true }
 {
-    // Brings what the type keeps into scope.
-    let _shape = closed.shape();
-    let _words = closed.words();
+    closed.keeps();
     best(closed)
 }
 
@@ -96,10 +94,7 @@ impl Turn {
         ensures empty { is_empty_at board.now result.cell ≡ true }
         ensures good { IsGoodAsPlanned result board.now colour planned }
     {
-        // Brings what the type keeps into scope.
-        let _size = board.size();
-        let _black = board.stones(Colour::Black);
-        let _white = board.stones(Colour::White);
+        board.keeps();
         let cell = won_cell(&planned.plan);
         Turn {
             board: *board,

@@ -22,7 +22,7 @@ pub(crate) fn winning_cell(report: &Report, number: u32) -> Cell
         → IsWinningCell report.now a a.kind result }
 {
     let store = report.store();
-    // Brings what the type keeps into scope: the player's stones lie on the board.
+    // The player's stones lie on the board.
     let _stones = store.board().stones(store.colour());
     let entry = store.entries()[number as usize];
     match entry.kind {

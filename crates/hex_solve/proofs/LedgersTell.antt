@@ -17,7 +17,7 @@ use Rattle.win_cert.specs.Versions.{version_for}
 use Rattle.win_cert.specs.Writable.{IsLineOf}
 use Rattle.win_cert.specs.declared.certs.Cert.{Cert}
 use Rattle.win_cert.specs.declared.certs.TheConstants.{MOST_LINES, SECOND_VERSION}
-use Rattle.hex_solve.specs.Deciding.{lines_needed, need}
+use Rattle.hex_solve.specs.Deciding.{lines_needed, positions_needed}
 use Rattle.hex_solve.specs.Ledgers.{IsLedger, LedgerData, ShowsWin, count_of, read_of}
 use Rattle.hex_found.specs.Found.{IsCertifiedWinner, claim_for}
 use Rattle.hex_solve.specs.Solved.{few_cells}
@@ -102,7 +102,7 @@ ledger_version d cert c = second_suffices cert.board.size cert.lines
 pub won_told : (p : Position) (mover : Colour) (claim : Kind) (line : ℕ) (d : LedgerData)
     (cert : Cert) (winner : Colour) → IsToldBy p mover claim line d → IsCertOf d claim cert
     → winner ≡ d.base.player
-    → IsCertifiedWinner p mover winner cert × (length cert.lines ≤ 2 * need p mover)
+    → IsCertifiedWinner p mover winner cert × (length cert.lines ≤ 2 * positions_needed p mover)
 won_told p mover claim line d cert winner t c w = (
   record {
     certified = record {
@@ -115,8 +115,8 @@ won_told p mover claim line d cert winner t c w = (
     };
     wins = first_wins p mover winner (t.first_is ∙ ap Some (sym w));
   },
-  subst (λ xs. length xs ≤ 2 * need p mover) (sym c.lines)
-      (fewer (length d.lines) d.lost (2 * need p mover) t.entered),
+  subst (λ xs. length xs ≤ 2 * positions_needed p mover) (sym c.lines)
+      (fewer (length d.lines) d.lost (2 * positions_needed p mover) t.entered),
 )
   where
     fewer : (a b c : ℕ) → a + b ≤ c → a ≤ c
@@ -141,7 +141,7 @@ long_told p mover claim line d winner lines t w (l, m) =
       wins = first_wins p mover winner (t.first_is ∙ ap Some (sym w));
       long = l;
       large = over_nine p claim (count_of d) t.tree many;
-      fewer = let e : count_of d ≤ 2 * need p mover = t.entered in omega (arith, e, within);
+      fewer = let e : count_of d ≤ 2 * positions_needed p mover = t.entered in omega (arith, e, within);
       counted = λ z. subst (λ (c : Colour). lines ≡ lines_needed c p mover) (sym w)
           (exact lines (length d.lines) d.lost (lines_needed d.base.player p mover) m t.counted z);
     }
@@ -174,7 +174,7 @@ own_told p mover line own other mine theirs e z (g, s, q, f, b, x) =
       claims = semi_for mover ∙ ap (λ (c : Colour). claim_for c mover) (sym player);
       first_is = f ∙ ap Some (sym player);
       shows = subst (λ (x : Position). ShowsWin mine x Semi line) (sym board) s;
-      entered = from_none (count_of mine) (count_of own) (2 * need p mover) z g.count;
+      entered = from_none (count_of mine) (count_of own) (2 * positions_needed p mover) z g.count;
       tree = from_none (count_of mine) (count_of own) (tree_lines Semi (empty_count p)) z b;
       counted = λ y. subst (λ (c : Colour). count_of mine ≡ lines_needed c p mover) (sym player)
           (just (count_of mine) (count_of own) (lines_needed mover p mover) z (x y));
@@ -198,7 +198,7 @@ other_told p mover line own other mine theirs e z (g, s, q, f, b, x) =
       claims = full_for mover ∙ ap (λ (c : Colour). claim_for c mover) (sym player);
       first_is = f ∙ ap Some (sym player);
       shows = subst (λ (x : Position). ShowsWin theirs x Full line) (sym board) s;
-      entered = from_none (count_of theirs) (count_of other) (2 * need p mover) z g.count;
+      entered = from_none (count_of theirs) (count_of other) (2 * positions_needed p mover) z g.count;
       tree = from_none (count_of theirs) (count_of other) (tree_lines Full (empty_count p)) z b;
       counted = λ y. subst (λ (c : Colour). count_of theirs ≡ lines_needed c p mover) (sym player)
           (just (count_of theirs) (count_of other) (lines_needed (other_of mover) p mover) z (x y));

@@ -6,7 +6,7 @@ use Rattle.hex_cells.specs.declared.colours.Colour.{Colour}
 use Rattle.hex_cells.specs.declared.colours.Colour.TheVariants.{Black, White}
 use Rattle.hex_board.specs.Joined.{is_joined, winner_of}
 use Rattle.hex_board.specs.Positions.{Position, stones_of}
-use Rattle.hex_solve.specs.Deciding.{first, lines_needed, need}
+use Rattle.hex_solve.specs.Deciding.{first, lines_needed, positions_needed}
 use Rattle.hex_solve.proofs.NextNeed.{first_joined, lines_joined}
 
 nobody_by : (b w : Bool) → b ≡ false → w ≡ false
@@ -43,7 +43,7 @@ other_joined p White h i
 pub joined_told : (p : Position) (mover : Colour)
     → is_joined p.size mover (stones_of p mover) ≡ false
     → is_joined p.size (other_of mover) (stones_of p (other_of mover)) ≡ true
-    → (first p mover ≡ Some (other_of mover)) × (need p mover ≡ 1)
+    → (first p mover ≡ Some (other_of mover)) × (positions_needed p mover ≡ 1)
     × (lines_needed (other_of mover) p mover ≡ 2)
 joined_told p mover h i =
     let w = other_joined p mover h i in

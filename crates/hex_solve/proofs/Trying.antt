@@ -20,14 +20,14 @@ use Rattle.hex_cells.proofs.Counts.{members_few, members_less, members_test}
 use Rattle.conn_store.proofs.Sureness.{in_without, without_inside, without_itself}
 use Rattle.conn_store.specs.declared.entries.Kind.TheVariants.{Semi}
 use Rattle.win_cert.proofs.CutDerivations.{longer}
-use Rattle.hex_solve.specs.Deciding.{first, is_for, lines_needed, need, sum_up_to}
+use Rattle.hex_solve.specs.Deciding.{first, is_for, lines_needed, positions_needed, sum_up_to}
 use Rattle.hex_solve.specs.Ledgers.{AreAnswers, CountsBy, GrowsBy, IsAmong, LedgerData, ShowsWin}
 use Rattle.hex_solve.specs.Ledgers.{count_of}
 use Rattle.hex_solve.specs.PlainSearch.{IsPairOfLedgers, tree_lines}
 use Rattle.win_cert.specs.Showing.{Keeps}
 use Rattle.hex_cells.proofs.ColourLaws.{other_back}
 use Rattle.hex_solve.proofs.LedgerLaws.{counts_on, grows_none, grows_on}
-use Rattle.hex_solve.proofs.NextNeed.{for_other, lines_after, lines_lost, need_after, need_next}
+use Rattle.hex_solve.proofs.NextNeed.{for_other, lines_after, lines_lost, needed_after, need_next}
 use Rattle.hex_solve.proofs.NextNeed.{wins_by}
 use Rattle.hex_solve.proofs.Sums.{sum_cells, sum_least}
 use Rattle.win_cert.proofs.Reaching.{keeps_on}
@@ -67,8 +67,8 @@ pub record IsTrying (p : Position) (mover : Colour) (own first_other other : Led
   pub searched : IsPairOfLedgers p mover own other
   pub grows : GrowsBy (2 * (most - left)) first_other other
   pub spent : left ≤ most
-  pub sum : need p mover + left ≡ most + 1 + sum_up_to (has cells) (wins_by p mover)
-      (need_after p mover) (cells_of p.size)
+  pub sum : positions_needed p mover + left ≡ most + 1 + sum_up_to (has cells) (wins_by p mover)
+      (needed_after p mover) (cells_of p.size)
   pub tried : List ℕ
   pub answers : AreAnswers other p numbers tried
   pub all : (k : ℕ) → is_empty_at p k ≡ true → IsAmong k tried ⊎ (has cells k ≡ true)
@@ -96,19 +96,19 @@ pub trying_begun : (p : Position) (mover : Colour) (own other : LedgerData) (lef
     → IsTrying p mover own other other left left [] cells
 trying_begun p mover own other left cells k s a h e =
     let (n, c) = some_fewer p k h in
-    let q : need p mover ≡ 1 + sum_up_to (is_empty_at p) (wins_by p mover) (need_after p mover)
+    let q : positions_needed p mover ≡ 1 + sum_up_to (is_empty_at p) (wins_by p mover) (needed_after p mover)
     (cells_of p.size) = need_next p mover n (nobody p mover s.unjoined a) c in
-    let r : sum_up_to (is_empty_at p) (wins_by p mover) (need_after p mover)
-    (cells_of p.size) ≡ sum_up_to (has cells) (wins_by p mover) (need_after p mover)
+    let r : sum_up_to (is_empty_at p) (wins_by p mover) (needed_after p mover)
+    (cells_of p.size) ≡ sum_up_to (has cells) (wins_by p mover) (needed_after p mover)
     (cells_of p.size) =
-    sum_cells (is_empty_at p) (has cells) (wins_by p mover) (need_after p mover) 0 (p.size * p.size)
+    sum_cells (is_empty_at p) (has cells) (wins_by p mover) (needed_after p mover) 0 (p.size * p.size)
     (λ j l. sym (e j)) in
     let none : 0 ≡ 2 * (left - left) = omega arith in
     record {
       searched = s;
       grows = subst (λ v. GrowsBy v other other) none (grows_none other);
       spent = omega arith;
-      sum = told (need p mover) left _ _ q r;
+      sum = told (positions_needed p mover) left _ _ q r;
       tried = [];
       answers = tt;
       all = λ j i. inr (e j ∙ i);
@@ -152,8 +152,8 @@ pub trying_on : (p : Position) (mover : Colour) (own start other next : LedgerDa
     (most left rest : ℕ) (numbers : List ℕ) (cells k i : ℕ)
     → IsTrying p mover own start other most left numbers cells
     → has cells k ≡ true → ((j : ℕ) → j < k → has cells j ≡ false) → k < 121
-    → rest + need (placed p mover k) (other_of mover) ≡ left
-    → GrowsBy (2 * need (placed p mover k) (other_of mover)) other next
+    → rest + positions_needed (placed p mover k) (other_of mover) ≡ left
+    → GrowsBy (2 * positions_needed (placed p mover k) (other_of mover)) other next
     → ShowsWin next (placed p mover k) Semi i → first (placed p mover k) (other_of mover) ≡ Some
     (other_of mover)
     → count_of next ≤ count_of other + tree_lines Semi (empty_count (placed p mover k))
@@ -162,11 +162,11 @@ pub trying_on : (p : Position) (mover : Colour) (own start other next : LedgerDa
 trying_on p mover own start other next most left rest numbers cells k i w h n l r g s f b x =
     let q = placed p mover k in
     let here : is_empty_at p k ≡ true = w.inside k h in
-    let m : ℕ = need q (other_of mover) in
-    let fell : sum_up_to (has cells) (wins_by p mover) (need_after p mover)
+    let m : ℕ = positions_needed q (other_of mover) in
+    let fell : sum_up_to (has cells) (wins_by p mover) (needed_after p mover)
     (cells_of p.size) ≡ m + sum_up_to (has (without_cell cells k)) (wins_by p mover)
-    (need_after p mover) (cells_of p.size) =
-    sum_here p mover (need_after p mover) cells k here h n
+    (needed_after p mover) (cells_of p.size) =
+    sum_here p mover (needed_after p mover) cells k here h n
     ∙ picked_no (wins_by p mover k) m _ (ap (is_for mover) f ∙ for_other mover) in
     let fell_to : (c : Colour) → sum_left p mover cells (lines_after c p mover)
     ≡ lines_after c p mover k + sum_left p mover (without_cell cells k)
@@ -191,7 +191,7 @@ trying_on p mover own start other next most left rest numbers cells k i w h n l 
           (wide most left rest m w.spent r)
           (grows_on (2 * (most - left)) (2 * m) start other next w.grows g);
       spent = less most left rest m w.spent r;
-      sum = summed (need p mover) left rest m most _ _ w.sum fell r;
+      sum = summed (positions_needed p mover) left rest m most _ _ w.sum fell r;
       tried = w.tried ++ k ∷ [];
       answers = answers_more next p numbers w.tried i k
           (answers_on (2 * m) other next p numbers w.tried g w.answers)
@@ -214,13 +214,15 @@ trying_on p mover own start other next most left rest numbers cells k i w h n l 
           (members_less (without_cell cells k) cells k 121 (without_inside cells k) h (without_itself cells k) l) (longer numbers i);
       room = counted_in (empty_count p) (length numbers) (members cells (p.size * p.size))
           (members (without_cell cells k) (p.size * p.size)) (length (numbers ++ i ∷ [])) w.room
-          (members_less (without_cell cells k) cells k (p.size * p.size) (without_inside cells k) h (without_itself cells k) (empty_on p k here)) (longer numbers i);
+          (members_less (without_cell cells k) cells k (p.size * p.size) (without_inside cells k) h (without_itself cells k) (empty_on p k here))
+          (longer numbers i);
       short = λ c e.
           let o : empty_count (placed p mover k) ≡ c
           = suc_inj (sym (one_empty_less p mover k here) ∙ e) in
           subst (λ v. count_of next ≤ count_of start + v * tree_lines Semi c)
           (sym (longer numbers i))
-          (longer_by (count_of next) (count_of other) (count_of start) (length numbers) (tree_lines Semi c) (subst (λ v. count_of next ≤ count_of other + tree_lines Semi v) o b) (w.short c e));
+          (longer_by (count_of next) (count_of other) (count_of start) (length numbers) (tree_lines Semi c)
+          (subst (λ v. count_of next ≤ count_of other + tree_lines Semi v) o b) (w.short c e));
       lines = w.lines + lines_after (other_of mover) p mover k;
       counted = counts_on w.lines
           (lines_after (other_of mover) p mover k) start other next g.lost w.counted x;

@@ -11,11 +11,11 @@ use Rattle.hex_board.specs.Joined.{cells_of, is_joined}
 use Rattle.hex_board.specs.Positions.{Position, is_empty_at, placed, stones_of}
 use Rattle.hex_board.specs.Wins.{empty_count}
 use Rattle.conn_store.specs.declared.entries.Kind.TheVariants.{Full, Semi}
-use Rattle.hex_solve.specs.Deciding.{first, is_for, lines_needed, need, sum_up_to}
+use Rattle.hex_solve.specs.Deciding.{first, is_for, lines_needed, positions_needed, sum_up_to}
 use Rattle.hex_solve.specs.Ledgers.{AnswerAll, CountsBy, GrowsBy, LedgerData, count_of}
 use Rattle.hex_solve.specs.PlainSearch.{tree_lines}
 use Rattle.hex_cells.proofs.ColourLaws.{other_back}
-use Rattle.hex_solve.proofs.NextNeed.{first_other, first_own, lines_after, lines_next, need_after}
+use Rattle.hex_solve.proofs.NextNeed.{first_other, first_own, lines_after, lines_next, needed_after}
 use Rattle.hex_solve.proofs.NextNeed.{wins_by}
 use Rattle.hex_solve.proofs.Sums.{sum_none}
 use Rattle.hex_solve.proofs.Growing.{grows_wider}
@@ -25,8 +25,8 @@ use Rattle.hex_solve.proofs.NextNeed.{for_own}
 
 -- the mover wins after a stone on the least cell
 pub record Winning (p : Position) (mover : Colour) (most rest m lines : ℕ) : Type 0 where
-  pub entered : rest + need p mover ≡ most + 1
-  pub more : 1 + m ≤ need p mover
+  pub entered : rest + positions_needed p mover ≡ most + 1
+  pub more : 1 + m ≤ positions_needed p mover
   pub first : first p mover ≡ Some mover
   pub after : lines_needed mover p mover ≡ lines + 2
 
@@ -34,17 +34,17 @@ pub trying_won : (p : Position) (mover : Colour) (own start other : LedgerData) 
     (numbers : List ℕ) (cells k : ℕ) → IsTrying p mover own start other most left numbers cells
     → is_joined p.size (other_of mover) (stones_of p (other_of mover)) ≡ false → has cells k ≡ true
     → ((j : ℕ) → j < k → has cells j ≡ false)
-    → rest + need (placed p mover k) (other_of mover) ≡ left
+    → rest + positions_needed (placed p mover k) (other_of mover) ≡ left
     → first (placed p mover k) (other_of mover) ≡ Some (other_of (other_of mover))
-    → Winning p mover most rest (need (placed p mover k) (other_of mover))
+    → Winning p mover most rest (positions_needed (placed p mover k) (other_of mover))
     (lines_after mover p mover k)
 trying_won p mover own start other most left rest numbers cells k w a h n r f =
     let q = placed p mover k in
     let here : is_empty_at p k ≡ true = w.inside k h in
-    let m : ℕ = need q (other_of mover) in
+    let m : ℕ = positions_needed q (other_of mover) in
     let mine : first q (other_of mover) ≡ Some mover = f ∙ ap Some (other_back mover) in
-    let fell : sum_up_to (has cells) (wins_by p mover) (need_after p mover) (cells_of p.size) ≡ m =
-    sum_here p mover (need_after p mover) cells k here h n
+    let fell : sum_up_to (has cells) (wins_by p mover) (needed_after p mover) (cells_of p.size) ≡ m =
+    sum_here p mover (needed_after p mover) cells k here h n
     ∙ picked_yes (wins_by p mover k) m _ (ap (is_for mover) mine ∙ for_own mover) in
     let (c, e) = some_fewer p k here in
     let won = first_own p mover c k (nobody p mover w.searched.unjoined a) e here mine in
@@ -53,8 +53,8 @@ trying_won p mover own start other most left rest numbers cells k w a h n r f =
     ∙ picked_yes (wins_by p mover k) (lines_after mover p mover k) _
     (ap (is_for mover) mine ∙ for_own mover) in
     record {
-      entered = entered (need p mover) left rest m most _ w.sum fell r;
-      more = more (need p mover) left m most _ w.sum fell w.spent;
+      entered = entered (positions_needed p mover) left rest m most _ w.sum fell r;
+      more = more (positions_needed p mover) left m most _ w.sum fell w.spent;
       first = won;
       after = after (lines_needed mover p mover) _ _ (lines_after mover p mover k)
           (lines_next mover p mover c (nobody p mover w.searched.unjoined a) e won) w.of_mover lines;
@@ -73,12 +73,12 @@ trying_won p mover own start other most left rest numbers cells k w a h n r f =
 pub trying_spent : (p : Position) (mover : Colour) (own start other : LedgerData) (most left : ℕ)
     (numbers : List ℕ) (cells k : ℕ) → IsTrying p mover own start other most left numbers cells
     → has cells k ≡ true → ((j : ℕ) → j < k → has cells j ≡ false)
-    → left < need (placed p mover k) (other_of mover) → most + 1 < need p mover
+    → left < positions_needed (placed p mover k) (other_of mover) → most + 1 < positions_needed p mover
 trying_spent p mover own start other most left numbers cells k w h n l =
-    let m : ℕ = need (placed p mover k) (other_of mover) in
+    let m : ℕ = positions_needed (placed p mover k) (other_of mover) in
     let here : is_empty_at p k ≡ true = w.inside k h in
-    let fell = sum_here p mover (need_after p mover) cells k here h n in
-    over (need p mover) left m most _ w.sum
+    let fell = sum_here p mover (needed_after p mover) cells k here h n in
+    over (positions_needed p mover) left m most _ w.sum
     (subst (λ v. m ≤ v) (sym fell) (at_least (wins_by p mover k) m _)) l
   where
     at_least : (t : Bool) (x y : ℕ) → x ≤ (if t then x else x + y)
@@ -91,9 +91,9 @@ trying_spent p mover own start other most left numbers cells k w h n l =
 -- all were tried
 pub record Losing (p : Position) (mover : Colour) (start other : LedgerData) (most left : ℕ)
     (numbers : List ℕ) : Type 0 where
-  pub entered : left + need p mover ≡ most + 1
-  pub grows : GrowsBy (2 * need p mover - 2) start other
-  pub enough : 2 ≤ 2 * need p mover
+  pub entered : left + positions_needed p mover ≡ most + 1
+  pub grows : GrowsBy (2 * positions_needed p mover - 2) start other
+  pub enough : 2 ≤ 2 * positions_needed p mover
   pub answers : AnswerAll other p numbers
   pub few : length numbers ≤ 121
   pub first : first p mover ≡ Some (other_of mover)
@@ -109,17 +109,17 @@ pub trying_done : (p : Position) (mover : Colour) (own start other : LedgerData)
     → Losing p mover start other most left numbers
 trying_done p mover own start other most left numbers cells k w a h n =
     let (c, e) = some_fewer p k h in
-    let none : sum_up_to (has cells) (wins_by p mover) (need_after p mover) (cells_of p.size) ≡ 0
-    = sum_none (has cells) (wins_by p mover) (need_after p mover) 0 (p.size * p.size) n in
-    let entered : left + need p mover ≡ most + 1
-    = all_entered (need p mover) left most _ w.sum none in
+    let none : sum_up_to (has cells) (wins_by p mover) (needed_after p mover) (cells_of p.size) ≡ 0
+    = sum_none (has cells) (wins_by p mover) (needed_after p mover) 0 (p.size * p.size) n in
+    let entered : left + positions_needed p mover ≡ most + 1
+    = all_entered (positions_needed p mover) left most _ w.sum none in
     let lost = first_other p mover c k (nobody p mover w.searched.unjoined a) e h
     (λ j i. w.lost j i (n j)) in
     record {
       entered = entered;
-      grows = grows_wider (2 * (most - left)) (2 * need p mover - 2) start other
-          (wide (need p mover) left most entered w.spent) w.grows;
-      enough = enough (need p mover) left most entered w.spent;
+      grows = grows_wider (2 * (most - left)) (2 * positions_needed p mover - 2) start other
+          (wide (positions_needed p mover) left most entered w.spent) w.grows;
+      enough = enough (positions_needed p mover) left most entered w.spent;
       answers = (w.tried, w.answers, λ j i. elim (w.all j i) [ inl o ↦ o | inr o ↦ absurd (both_ways (has cells j) (n j) o) ]);
       few = let l : length numbers + members cells 121 ≤ 121 = w.few in omega arith;
       first = lost;

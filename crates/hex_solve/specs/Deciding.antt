@@ -43,17 +43,17 @@ sum_up_to empty test f (k ∷ cells) =
 
 -- how many positions a search enters that tries the cells in rising order, up to the first that
 -- wins, with `fuel` stones more
-abbrev pub need_in : ℕ → Position → Colour → ℕ
-need_in zero p mover = 1
-need_in (suc fuel) p mover =
+abbrev pub positions_needed_in : ℕ → Position → Colour → ℕ
+positions_needed_in zero p mover = 1
+positions_needed_in (suc fuel) p mover =
     if is_some (winner_of p) then 1
     else 1 + sum_up_to (is_empty_at p)
     (λ k. is_for mover (first_in fuel (placed p mover k) (other_of mover)))
-    (λ k. need_in fuel (placed p mover k) (other_of mover))
+    (λ k. positions_needed_in fuel (placed p mover k) (other_of mover))
     (cells_of p.size)
 
-abbrev pub need : Position → Colour → ℕ
-need p mover = need_in (empty_count p) p mover
+abbrev pub positions_needed : Position → Colour → ℕ
+positions_needed p mover = positions_needed_in (empty_count p) p mover
 
 -- how many lines a certificate has by which such a search shows that player c wins: two, and those
 -- of each position that it enters after a stone; none if he doesn't win

@@ -10,7 +10,7 @@ use Rattle.win_cert.specs.Verdicts.{Accepted}
 use Rattle.win_cert.specs.Writable.{IsWritable}
 use Rattle.win_cert.specs.declared.certs.Cert.{Cert}
 use Rattle.win_cert.specs.declared.certs.TheConstants.{MOST_LINES, SECOND_VERSION}
-use Rattle.hex_solve.specs.Deciding.{first, lines_needed, need}
+use Rattle.hex_solve.specs.Deciding.{first, lines_needed, positions_needed}
 use Rattle.hex_solve.specs.Ledgers.{LedgerData, ShowsWin, count_of}
 use Rattle.hex_solve.specs.PlainSearch.{tree_lines}
 use Rattle.hex_found.specs.Found.{IsCertifiedWinner, claim_for}
@@ -35,7 +35,7 @@ pub record IsToldBy (p : Position) (mover : Colour) (claim : Kind) (line : ℕ)
   pub claims : claim ≡ claim_for d.base.player mover
   pub first_is : first p mover ≡ Some d.base.player
   pub shows : ShowsWin d d.base.board claim line
-  pub entered : count_of d ≤ 2 * need p mover
+  pub entered : count_of d ≤ 2 * positions_needed p mover
   pub tree : count_of d ≤ tree_lines claim (empty_count p)
   pub counted : d.lost < 2 ^ 64 - 1 → count_of d ≡ lines_needed d.base.player p mover
 
@@ -43,16 +43,16 @@ pub record IsToldBy (p : Position) (mover : Colour) (claim : Kind) (line : ℕ)
 pub record IsOverlong (p : Position) (mover winner : Colour) (lines : ℕ) : Type 0 where
   pub wins : Wins winner p mover
   pub long : MOST_LINES < lines
-  pub fewer : lines ≤ 2 * need p mover
+  pub fewer : lines ≤ 2 * positions_needed p mover
   pub large : few_cells < empty_count p
   pub counted : lines < 2 ^ 64 - 1 → lines ≡ lines_needed winner p mover
 
 -- what a search tells that was handed this report and may enter so many positions
 abbrev pub IsPlainAnswer : Position → Colour → Option StoreData → ℕ → Solved → Type 0
 IsPlainAnswer p mover own budget (Won winner cert) =
-    IsCertifiedWinner p mover winner cert × (length cert.lines ≤ 2 * need p mover)
+    IsCertifiedWinner p mover winner cert × (length cert.lines ≤ 2 * positions_needed p mover)
 IsPlainAnswer p mover own budget (Unknown spent left) =
-    (spent ≡ budget) × (budget < need p mover) × (left ≡ own)
+    (spent ≡ budget) × (budget < positions_needed p mover) × (left ≡ own)
 IsPlainAnswer p mover own budget (TooLong winner lines) = IsOverlong p mover winner lines
 IsPlainAnswer p mover own budget (Open full) = IsOpenBoard p full
 
@@ -60,6 +60,6 @@ IsPlainAnswer p mover own budget (Open full) = IsOpenBoard p full
 abbrev pub IsSolverAnswer : Position → Colour → Option StoreData → ℕ → Solved → Type 0
 IsSolverAnswer p mover own budget (Won winner cert) = IsCertifiedWinner p mover winner cert
 IsSolverAnswer p mover own budget (Unknown spent left) =
-    (spent ≡ budget) × (budget < need p mover) × (left ≡ own)
+    (spent ≡ budget) × (budget < positions_needed p mover) × (left ≡ own)
 IsSolverAnswer p mover own budget (TooLong winner lines) = IsOverlong p mover winner lines
 IsSolverAnswer p mover own budget (Open full) = IsOpenBoard p full

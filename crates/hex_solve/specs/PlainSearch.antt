@@ -8,13 +8,13 @@ use Rattle.hex_board.specs.Positions.{Position, stones_of}
 use Rattle.hex_board.specs.Wins.{empty_count}
 use Rattle.conn_store.specs.declared.entries.Kind.{Kind}
 use Rattle.conn_store.specs.declared.entries.Kind.TheVariants.{Full, Semi}
-use Rattle.hex_solve.specs.Deciding.{first, lines_needed, need}
+use Rattle.hex_solve.specs.Deciding.{first, lines_needed, positions_needed}
 use Rattle.hex_solve.specs.Ledgers.{CountsBy, GrowsBy, LedgerData, ShowsWin, count_of}
 use Rattle.win_cert.specs.Showing.{Keeps}
 use Rattle.hex_solve.specs.Solved.{IsOpenBoard}
 use Rattle.hex_solve.specs.declared.plain_search.Found.{Found}
-use Rattle.hex_solve.specs.declared.plain_search.Stop.{Stop}
-use Rattle.hex_solve.specs.declared.plain_search.Stop.TheVariants.{Spent, Open, Memory}
+use Rattle.hex_solve.specs.declared.plain_search.SearchEnd.{SearchEnd}
+use Rattle.hex_solve.specs.declared.plain_search.SearchEnd.TheVariants.{Spent, Open, Memory}
 
 -- p is searched with `mover` to place, over a ledger of his and one of the other's, of one board
 -- whose stones p keeps, and the mover is not joined
@@ -37,26 +37,26 @@ tree_lines Full (suc m) = 2 + suc m * tree_lines Semi m
 -- that was entered, and no more than a tree has; the other ledger is as before
 abbrev pub IsShownBy : Bool → Position → Colour → ℕ → LedgerData × LedgerData
     → LedgerData × LedgerData → Type 0
-IsShownBy true p mover line old new = GrowsBy (2 * need p mover) old.0 new.0
+IsShownBy true p mover line old new = GrowsBy (2 * positions_needed p mover) old.0 new.0
     × ShowsWin new.0 p Semi line × (new.1 ≡ old.1) × (first p mover ≡ Some mover)
     × (count_of new.0 ≤ count_of old.0 + tree_lines Semi (empty_count p))
     × CountsBy (lines_needed mover p mover) old.0 new.0
-IsShownBy false p mover line old new = GrowsBy (2 * need p mover) old.1 new.1
+IsShownBy false p mover line old new = GrowsBy (2 * positions_needed p mover) old.1 new.1
     × ShowsWin new.1 p Full line × (new.0 ≡ old.0) × (first p mover ≡ Some (other_of mover))
     × (count_of new.1 ≤ count_of old.1 + tree_lines Full (empty_count p))
     × CountsBy (lines_needed (other_of mover) p mover) old.1 new.1
 
 -- why a search stopped that may enter `left` positions: they are fewer than it needs, or a board is
 -- open, or memory ran out
-abbrev pub IsStop : Position → Colour → ℕ → Stop → Type 0
-IsStop p mover left Spent = left < need p mover
-IsStop p mover left (Open full) = IsOpenBoard p full
-IsStop p mover left Memory = Unit {0}
+abbrev pub IsSearchEnd : Position → Colour → ℕ → SearchEnd → Type 0
+IsSearchEnd p mover left Spent = left < positions_needed p mover
+IsSearchEnd p mover left (Open full) = IsOpenBoard p full
+IsSearchEnd p mover left Memory = Unit {0}
 
 -- what a search answers that may enter `left` positions: who wins, by a line, and how many it may
 -- enter then; or why it stopped
 abbrev pub IsSearch : Position → Colour → ℕ → ℕ → LedgerData × LedgerData
-    → LedgerData × LedgerData → Result Found Stop → Type 0
-IsSearch p mover left rest old new (Ok found) = (rest + need p mover ≡ left)
+    → LedgerData × LedgerData → Result Found SearchEnd → Type 0
+IsSearch p mover left rest old new (Ok found) = (rest + positions_needed p mover ≡ left)
     × IsShownBy found.by_mover p mover found.line old new
-IsSearch p mover left rest old new (Err stop) = IsStop p mover left stop
+IsSearch p mover left rest old new (Err stop) = IsSearchEnd p mover left stop

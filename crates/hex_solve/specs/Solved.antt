@@ -13,7 +13,7 @@ use Rattle.win_cert.specs.Cuts.{IsEdgeEntryAt}
 use Rattle.win_cert.specs.declared.certs.Cert.{Cert}
 use Rattle.win_cert.specs.declared.certs.TheConstants.{MOST_LINES}
 use Rattle.hex_found.specs.Found.{Certifies}
-use Rattle.hex_solve.specs.Deciding.{lines_needed, need}
+use Rattle.hex_solve.specs.Deciding.{lines_needed, positions_needed}
 use Rattle.win_cert.specs.Showing.{Keeps}
 use Rattle.hex_solve.specs.declared.answers.Solved.{Solved}
 use Rattle.hex_solve.specs.declared.answers.Solved.TheVariants.{Won, Unknown, TooLong, Open}
@@ -37,7 +37,7 @@ WonIsCertified p mover (Open full) = Unit {0}
 -- without connections it has at most two lines for each position that the search needs
 abbrev pub WonIsShort : Position → Colour → Bool → Solved → Type 0
 WonIsShort p mover hsearch (Won winner cert) =
-    hsearch ≡ false → length cert.lines ≤ 2 * need p mover
+    hsearch ≡ false → length cert.lines ≤ 2 * positions_needed p mover
 WonIsShort p mover hsearch (Unknown spent own) = Unit {0}
 WonIsShort p mover hsearch (TooLong winner lines) = Unit {0}
 WonIsShort p mover hsearch (Open full) = Unit {0}
@@ -52,7 +52,7 @@ abbrev pub TooLongNeedsMany : Position → Colour → Solved → Type 0
 TooLongNeedsMany p mover (Won winner cert) = Unit {0}
 TooLongNeedsMany p mover (Unknown spent own) = Unit {0}
 TooLongNeedsMany p mover (TooLong winner lines) =
-    (MOST_LINES < lines) × (lines ≤ 2 * need p mover) × (few_cells < empty_count p)
+    (MOST_LINES < lines) × (lines ≤ 2 * positions_needed p mover) × (few_cells < empty_count p)
 TooLongNeedsMany p mover (Open full) = Unit {0}
 
 -- the winner's certificate by the search without connections has so many lines, or more if this is
@@ -80,7 +80,7 @@ IsOwnReport p mover false own = own ≡ None
 abbrev pub UnknownNeedsMore : Position → Colour → Bool → ℕ → Solved → Type 0
 UnknownNeedsMore p mover hsearch budget (Won winner cert) = Unit {0}
 UnknownNeedsMore p mover hsearch budget (Unknown spent own) =
-    (spent ≡ budget) × (budget < need p mover) × IsOwnReport p mover hsearch own
+    (spent ≡ budget) × (budget < positions_needed p mover) × IsOwnReport p mover hsearch own
 UnknownNeedsMore p mover hsearch budget (TooLong winner lines) = Unit {0}
 UnknownNeedsMore p mover hsearch budget (Open full) = Unit {0}
 

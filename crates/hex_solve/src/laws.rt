@@ -4,7 +4,7 @@ ghost use Rattle.std.specs.Prelude.{◌≡◌, ◌≤◌, Some};
 ghost use Rattle.hex_cells.specs.declared.colours.Colour.{Colour};
 ghost use Rattle.hex_board.specs.Positions.{Position};
 ghost use Rattle.hex_board.specs.Wins.{Wins, empty_count};
-ghost use Rattle.hex_solve.specs.Deciding.{bound, first, need};
+ghost use Rattle.hex_solve.specs.Deciding.{bound, first, positions_needed};
 
 /// A law, with nothing to run: the player whom the search of each move calls the winner wins.
 pub fn first_implies_wins()
@@ -14,7 +14,8 @@ pub fn first_implies_wins()
 
 /// A law, with nothing to run: a search in rising order enters at most as many positions as there
 /// are lists of different empty cells. With four empty cells these are 65.
-pub fn need_is_bounded()
-    ensures bounded { (p : Position) (mover : Colour) → need p mover ≤ bound (empty_count p) }
+pub fn positions_are_bounded()
+    ensures bounded { (p : Position) (mover : Colour)
+        → positions_needed p mover ≤ bound (empty_count p) }
     ensures of_four { bound 4 ≡ 65 }
 {}

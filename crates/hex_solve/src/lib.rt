@@ -16,9 +16,9 @@
 //! **What is proved.** A winner wins, whether his certificate fits or not. The certificate of one
 //! who has won has the version that its lines need, can be written, is accepted, and is of this
 //! board, for him.
-//! It is unknown who wins only if the budget is below need, and need is at most bound
-//! ([`need_is_bounded`]). A certificate is too long only if more than nine cells are empty. How
-//! many lines it has is told: those of the winner, at most two for each of need positions
+//! It is unknown who wins only if the budget is below the positions needed, and these are at most
+//! bound ([`positions_are_bounded`]). A certificate is too long only if more than nine cells are
+//! empty. How many lines it has is told: those of the winner, at most two for each position needed
 //! (specs/Solved.antt and Deciding.antt).
 //!
 //! **What is only tested, or not said.** That calls get their memory; the time. That connections
@@ -42,7 +42,7 @@
 //! - In the plain search a `put` stands before every line, so the lines of a failed try are dropped
 //!   by length. Both players' lines are kept until the winner is known, and swapped at each level.
 //!   Lines for which a certificate has no room are counted.
-//! - A budget of 0 is always below need.
+//! - A budget of 0 is always below the positions needed.
 //! - Wrong bodies that stand as no edit, with what refuses them: no certificate, or one for the
 //!   other claim (`won`, by `Certifies`); a ledger that isn't cut back (`back`); no plain search
 //!   (`unknown`); too long though the lines fit (`too_long`).
@@ -58,6 +58,6 @@ mod refusals;
 mod solver;
 
 pub use answers::Solved;
-pub use laws::{first_implies_wins, need_is_bounded};
+pub use laws::{first_implies_wins, positions_are_bounded};
 pub use refusals::Memory;
 pub use solver::solve;

@@ -3,12 +3,12 @@
 ghost use Rattle.std.specs.Prelude.{◌≡◌, ℕ, IfOk, None, Option};
 ghost use Rattle.hex_board.specs.Joined.{winner_of};
 ghost use Rattle.conn_store.specs.Stores.{StoreData};
-ghost use Rattle.hex_solve.specs.PlainSearch.{IsStop};
+ghost use Rattle.hex_solve.specs.PlainSearch.{IsSearchEnd};
 ghost use Rattle.hex_solve.specs.PlainAnswer.{IsPlainAnswer, IsToldBy};
 
 use super::answers::Solved;
 use super::ledgers::Ledger;
-use super::plain_search::{Stop, position};
+use super::plain_search::{SearchEnd, position};
 use super::refusals::Memory;
 use conn_store::Kind;
 use hex_board::Board;
@@ -50,15 +50,15 @@ fn stopped(
     mover: Colour,
     own: Option<Report>,
     budget: u64,
-    stop: Stop,
+    stop: SearchEnd,
 ) -> Result<Solved, Memory>
-    requires { IsStop board.now mover budget stop }
+    requires { IsSearchEnd board.now mover budget stop }
     ensures { IfOk result (IsPlainAnswer board.now mover own budget) }
 {
     match stop {
-        Stop::Spent => Ok(Solved::Unknown { spent: budget, own }),
-        Stop::Open(full) => Ok(Solved::Open { full }),
-        Stop::Memory => Err(Memory),
+        SearchEnd::Spent => Ok(Solved::Unknown { spent: budget, own }),
+        SearchEnd::Open(full) => Ok(Solved::Open { full }),
+        SearchEnd::Memory => Err(Memory),
     }
 }
 

@@ -13,7 +13,7 @@ use std::alloc::Global;
 
 /// Why a search stopped.
 #[derive(Clone, Copy, Debug, PartialEq, Eq)]
-pub(crate) enum Stop {
+pub(crate) enum SearchEnd {
     /// The budget is spent.
     Spent,
     /// The board is full, and nobody is joined.
@@ -39,18 +39,18 @@ pub(crate) fn position(
     own: &mut Ledger,
     other: &mut Ledger,
     left: &mut u64,
-) -> Result<Found, Stop>
+) -> Result<Found, SearchEnd>
     requires searched { IsPairOfLedgers board.now mover own.old other.old }
     ensures { IsSearch board.now mover left.old left.new (own.old, other.old) (own.new, other.new)
         result }
 {
     if *left == 0 {
-        return Err(Stop::Spent);
+        return Err(SearchEnd::Spent);
     }
     *left -= 1;
     if board.joined(mover.other()) {
         let Ok(line) = other.add_done(board) else {
-            return Err(Stop::Memory);
+            return Err(SearchEnd::Memory);
         };
         return Ok(Found {
             by_mover: false,
@@ -58,7 +58,7 @@ pub(crate) fn position(
         });
     }
     let Some(_room) = board.empties().least() else {
-        return Err(Stop::Open(*board));
+        return Err(SearchEnd::Open(*board));
     };
     moves(alloc, board, mover, own, other, left)
 }
@@ -71,7 +71,7 @@ fn moves(
     own: &mut Ledger,
     other: &mut Ledger,
     left: &mut u64,
-) -> Result<Found, Stop>
+) -> Result<Found, SearchEnd>
     requires searched { IsPairOfLedgers board.now mover own.old other.old }
     requires apart { is_joined board.now.size (other_of mover)
         (stones_of board.now (other_of mover)) ≡ false }
@@ -94,7 +94,7 @@ fn moves(
         if !found.by_mover {
             other.back(mark);
             let Ok(line) = own.add_move(board, cell, found.line) else {
-                return Err(Stop::Memory);
+                return Err(SearchEnd::Memory);
             };
             return Ok(Found {
                 by_mover: true,
@@ -102,12 +102,12 @@ fn moves(
             });
         }
         let Ok(()) = cases.push(found.line) else {
-            return Err(Stop::Memory);
+            return Err(SearchEnd::Memory);
         };
         cells = cells.without(cell);
     }
     let Ok(line) = other.add_cases(board, cases) else {
-        return Err(Stop::Memory);
+        return Err(SearchEnd::Memory);
     };
     Ok(Found {
         by_mover: false,

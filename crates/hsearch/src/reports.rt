@@ -113,6 +113,14 @@ impl Report {
         closed(alloc, store, self.waiting, self.taken, self.lists)
     }
 
+    /// Does nothing: that it is a report is known after the call.
+    #[inline]
+    pub fn keeps(&self)
+        ensures report { IsReport self.now }
+    {
+        let _ = &self.store;
+    }
+
     /// The store of the report: sound and closed.
     pub fn store(&self) -> &Store
         ensures value { result.now ≡ self.now }

@@ -1,4 +1,4 @@
-//! Bytes and arguments, which contracts see as lists.
+//! Texts and arguments, which contracts see as lists.
 
 ghost use Rattle.std.specs.Prelude.{◌≡◌, List, ℕ, map};
 
@@ -6,11 +6,11 @@ use std::marker::Model;
 
 /// A list of bytes.
 #[derive(Debug, Drop)]
-pub struct Bytes {
+pub struct HtpText {
     items: Vec<u8>,
 }
 
-impl Model for Bytes {
+impl Model for HtpText {
     ghost use Rattle.std.specs.Prelude.{ℕ, List};
 
     ghost Value = { List ℕ };
@@ -18,12 +18,12 @@ impl Model for Bytes {
     ghost view = { λ b. b.items.items };
 }
 
-impl Bytes {
+impl HtpText {
     /// The bytes of this vector. It takes no memory.
-    pub fn of(items: Vec<u8>) -> Bytes
+    pub fn of(items: Vec<u8>) -> HtpText
         ensures { result ≡ items.items }
     {
-        Bytes { items }
+        HtpText { items }
     }
 
     /// Lends the bytes.
@@ -37,7 +37,7 @@ impl Bytes {
 /// The arguments of a request: a list of words.
 #[derive(Debug, Drop)]
 pub struct Args {
-    items: Vec<Bytes>,
+    items: Vec<HtpText>,
 }
 
 impl Model for Args {
@@ -50,14 +50,14 @@ impl Model for Args {
 
 impl Args {
     /// The words of this vector. It takes no memory.
-    pub fn of(items: Vec<Bytes>) -> Args
+    pub fn of(items: Vec<HtpText>) -> Args
         ensures { result ≡ items.items }
     {
         Args { items }
     }
 
     /// Lends the words.
-    pub fn as_slice(&self) -> &[Bytes]
+    pub fn as_slice(&self) -> &[HtpText]
         ensures { result.now ≡ self.now }
     {
         &self.items

@@ -31,8 +31,8 @@
 //!
 //! - The number of an argument and the id of a request have the same form, so one reader,
 //!   [`read_number`], serves both.
-//! - hex_io, htp_line, sgf_tree and win_cert each have a type `Bytes` with the same contract: none
-//!   of them stands on another, and one type for all would need a crate below all four.
+//! - [`HtpText`], hex_io's `Bytes`, and `SgfText` and `CertText` of sgf_tree and win_cert have one
+//!   contract: none stands on another, and one type for all would need a crate below all four.
 //! - The protocol's white space, once control bytes are dropped, is the byte 32 alone; SGF's is
 //!   that of `sgf_tree::is_white_space`. Each standard's crate says its own.
 #![tactic(auto)]
@@ -45,7 +45,7 @@ mod splitter;
 mod want;
 
 pub use answer::{FRAME, ID_LIMIT, id_text, push_failure, push_success};
-pub use bytes::{Args, Bytes};
+pub use bytes::{Args, HtpText};
 pub use limits::limits_are_those_of_the_manual;
 pub use request::{Parsed, Request, read_line, read_number};
 pub use splitter::{Fed, LINE_LIMIT, Splitter};

@@ -4,7 +4,7 @@ ghost use Rattle.std.specs.Prelude.{◌≡◌, ◌≤◌, length, IfOk, map};
 ghost use Rattle.std.specs.List.{slice_split};
 ghost use Rattle.htp_line.specs.Reading.{reading, cleaned, words, number_of, is_space};
 
-use super::bytes::{Args, Bytes};
+use super::bytes::{Args, HtpText};
 use super::splitter::LINE_LIMIT;
 use super::want::Memory;
 use std::alloc::{AllocError, Global};
@@ -19,7 +19,7 @@ const GREATEST_ID: u64 = 2_147_483_647;
 #[derive(Debug, Drop)]
 pub struct Request {
     pub id: Option<u32>,
-    pub name: Bytes,
+    pub name: HtpText,
     pub args: Args,
 }
 
@@ -89,13 +89,13 @@ fn parts_of(alloc: Global, text: &[u8]) -> Result<Vec<&[u8]>, AllocError>
 
 /// The words between spaces.
 #[tactic(auto, unfolding(crate::specs::Reading::words))]
-fn words_of(alloc: Global, text: &[u8]) -> Result<Vec<Bytes>, AllocError>
+fn words_of(alloc: Global, text: &[u8]) -> Result<Vec<HtpText>, AllocError>
     ensures { IfOk result (λ v. v.items ≡ words text.now) }
 {
     let mut found = Vec::new(alloc);
     for part in &parts_of(alloc, text)? {
         if !part.is_empty() {
-            found.push(Bytes::of(part.to_vec(alloc)?))?;
+            found.push(HtpText::of(part.to_vec(alloc)?))?;
         }
     }
     Ok(found)

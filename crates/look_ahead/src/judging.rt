@@ -2,7 +2,7 @@
 
 ghost use Rattle.std.specs.Prelude.{◌≡◌};
 
-use super::nodes::{Kid, NOWHERE, Node, State};
+use super::nodes::{Kid, LookNode, NOWHERE, State};
 use super::refusals::Memory;
 use super::searches::{Look, Root};
 use super::values::{prior_of, value_of, worth};
@@ -19,7 +19,7 @@ impl Look {
         alloc: Global,
         root: &Root<'_>,
         must: CellSet,
-    ) -> Result<Node, Memory>
+    ) -> Result<LookNode, Memory>
         ensures { self.new.nodes ≡ self.old.nodes }
     {
         let (Some(own), Some(other)) = (root.own, root.other) else {
@@ -31,7 +31,7 @@ impl Look {
     }
 
     // An open node with kids on these cells, by the reports of the player to move and the other.
-    fn opened(&mut self, own: &Store, other: &Store, must: CellSet) -> Result<Node, Memory>
+    fn opened(&mut self, own: &Store, other: &Store, must: CellSet) -> Result<LookNode, Memory>
         ensures { self.new.nodes ≡ self.old.nodes }
     {
         self.own.load(own);
@@ -52,7 +52,7 @@ impl Look {
             })?;
         }
         let value = value_of(&self.own, &self.other);
-        Ok(Node::open(value, first, must.count()))
+        Ok(LookNode::open(value, first, must.count()))
     }
 
     // What these cells are worth together.
@@ -75,13 +75,13 @@ impl Look {
         alloc: Global,
         board: &Board,
         mover: Colour,
-    ) -> Result<Node, Memory>
+    ) -> Result<LookNode, Memory>
         ensures { self.new.nodes ≡ self.old.nodes }
     {
         let own = report_in(self.own_report.take(), alloc, board, mover)?;
         if has_edges(own.store(), Kind::Semi) || has_edges(own.store(), Kind::Full) {
             self.own_report = Some(own);
-            return Ok(Node::decided(State::Won));
+            return Ok(LookNode::decided(State::Won));
         }
         let other = report_in(self.other_report.take(), alloc, board, mover.other())?;
         let node = self.weighed(&own, &other, board.empties());
@@ -91,12 +91,17 @@ impl Look {
     }
 
     // The node of a board with these empty cells, whose own report shows no win.
-    fn weighed(&mut self, own: &Report, other: &Report, empties: CellSet) -> Result<Node, Memory>
+    fn weighed(
+        &mut self,
+        own: &Report,
+        other: &Report,
+        empties: CellSet,
+    ) -> Result<LookNode, Memory>
         ensures { self.new.nodes ≡ self.old.nodes }
     {
         let must = common(other.store(), empties);
         if has_edges(other.store(), Kind::Full) || must.is_empty() {
-            return Ok(Node::decided(State::Lost));
+            return Ok(LookNode::decided(State::Lost));
         }
         self.opened(own.store(), other.store(), must)
     }

@@ -16,7 +16,7 @@ pub(crate) enum State {
 
 /// A board that was judged.
 #[derive(Clone, Copy, Debug, PartialEq, Eq)]
-pub(crate) struct Node {
+pub(crate) struct LookNode {
     pub state: State,
     /// Where its kids begin, and how many they are.
     pub first: u32,
@@ -35,10 +35,10 @@ pub(crate) struct Kid {
     pub node: u32,
 }
 
-impl Node {
+impl LookNode {
     /// A node that is won or lost.
-    pub(crate) fn decided(state: State) -> Node {
-        Node {
+    pub(crate) fn decided(state: State) -> LookNode {
+        LookNode {
             state,
             first: 0,
             count: 0,
@@ -48,8 +48,8 @@ impl Node {
     }
 
     /// An open node with this value.
-    pub(crate) fn open(value: u64, first: u32, count: u32) -> Node {
-        Node {
+    pub(crate) fn open(value: u64, first: u32, count: u32) -> LookNode {
+        LookNode {
             state: State::Open,
             first,
             count,

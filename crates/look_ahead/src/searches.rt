@@ -3,7 +3,7 @@
 ghost use Rattle.std.specs.Prelude.{◌≡◌, ◌+◌, ◌≤◌, ◌<◌, ℕ, IfOk, true, false, length};
 ghost use Rattle.hex_cells.specs.Sets.{has};
 
-use super::nodes::{Kid, NOWHERE, Node, State};
+use super::nodes::{Kid, LookNode, NOWHERE, State};
 use super::refusals::Memory;
 use super::rows::Looked;
 use circuit::Circuit;
@@ -33,7 +33,7 @@ pub struct Root<'a> {
 pub struct Look {
     pub(super) own: Circuit,
     pub(super) other: Circuit,
-    pub(super) nodes: Vec<Node>,
+    pub(super) nodes: Vec<LookNode>,
     pub(super) kids: Vec<Kid>,
     // The places of the nodes of a walk.
     pub(super) path: Vec<u32>,

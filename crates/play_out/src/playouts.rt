@@ -43,7 +43,7 @@ pub fn fill(board: &Board, to_move: Colour, seed: u64, k: u64) -> Board
         → has (stones_of result owner) c ≡ true }
     ensures size { result.size ≡ board.now.size }
 {
-    // Brings what the type keeps into scope: a board's stones lie on it, and apart.
+    // A board's stones lie on it, and apart.
     let (_before, _others_before) = (board.stones(to_move), board.stones(to_move.other()));
     let own = movers_stones(board, to_move, seed, k);
     let size = board.size();

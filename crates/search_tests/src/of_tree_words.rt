@@ -7,7 +7,7 @@ use hex_cells::{Cell, CellSet, Colour, Size};
 use seq_search::plain_search;
 use std::alloc::Global;
 use std::test::Fail;
-use tree_words::types::Node;
+use tree_words::types::NodeFields;
 use tree_words::{Closed, Knobs, Memory, Shape, block, node};
 
 // The root's child b1 and the block below it, after five playouts on size 2 with the expand number
@@ -15,7 +15,7 @@ use tree_words::{Closed, Knobs, Memory, Shape, block, node};
 #[test]
 fn reads_a_node_and_the_block_below_it(rt: HostRuntime) -> Result<(), Fail> {
     let child = [257, 31, 8589934594, 17179869188];
-    let want = Node {
+    let want = NodeFields {
         cell: 1,
         place: 1,
         link: 31,

@@ -73,8 +73,7 @@ fn count(words: &mut [u64], shape: &Shape, walk: &Descent, ending: &Ending)
     requires walked { HasWalked shape.now words.old walk.now }
     ensures { CountsWalk shape.now walk.now ending.now words.old words.new }
 {
-    // Brings what the type keeps into scope.
-    let _board = shape.board();
+    shape.keeps();
     let mut node = shape.root() as usize;
     let mut player = shape.colour();
     'down: for i in 0..walk.count {

@@ -20,8 +20,8 @@ fn empty_count(board: &Board) -> usize
     ensures value { result ≡ length (empties_of board.now) }
     ensures range { result ≤ MOST_NODES }
 {
-    // Brings what the type keeps into scope: the size bounds the board's cells.
-    let _size = board.size();
+    // The size bounds the board's cells.
+    board.keeps();
     board.empties().count() as usize
 }
 

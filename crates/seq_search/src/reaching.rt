@@ -12,8 +12,7 @@ pub(crate) fn reach(words: &mut [u64], shape: &Shape, walk: &mut Descent)
     requires { HoldsRooted shape.now words.old }
     ensures { ReachesLeaf shape.now words.old words.new walk.new }
 {
-    // Brings what the type keeps into scope.
-    let _board = shape.board();
+    shape.keeps();
     descend(words, shape, walk);
     if expand(words, shape, walk.node, &walk.board) {
         // A new block changes no count on the way, so this comes to the same node first.

@@ -29,8 +29,7 @@ fn walk<G: Gate>(words: &mut [u64], shape: &Shape, k: u32, descent: &mut Descent
     requires searched { Searched shape.now words.old k }
     ensures { Searched shape.now words.new (k + 1) }
 {
-    // Brings what the type keeps into scope.
-    let _board = shape.board();
+    shape.keeps();
     reach(words, shape, descent);
     pass_first(gate, k);
     let seed = shape.knobs().seed;
@@ -43,8 +42,7 @@ fn make_walks<G: Gate>(words: &mut [u64], shape: &Shape, gate: &G)
     requires { AreOpening shape.now words.old }
     ensures { Searched shape.now words.new shape.now.knobs.playouts }
 {
-    // Brings what the type keeps into scope.
-    let _board = shape.board();
+    shape.keeps();
     let playouts = shape.knobs().playouts;
     // One worker draws all playout numbers.
     words[TICKET_AT] = u64::from(playouts);
@@ -61,8 +59,7 @@ pub fn search_alone<G: Gate>(alloc: Global, shape: &Shape, gate: &G) -> Result<C
     ensures tree { IfOk result (λ closed. IsTreeOf shape.now closed.words (seq_of shape.now).0) }
     ensures next { IfOk result (λ closed. next_in closed.words ≡ (seq_of shape.now).1) }
 {
-    // Brings what the type keeps into scope.
-    let _board = shape.board();
+    shape.keeps();
     let mut words = make_opening(alloc, shape)?;
     make_walks(&mut words, shape, gate);
     Ok(Closed::of(*shape, words))

@@ -6,7 +6,7 @@ ghost use Rattle.sgf_game.specs.Lines.{nodes_lent, mover, ends, entry, has_end, 
 
 use super::values::{is_named, spells, trimmed};
 use hex_cells::Colour;
-use sgf_tree::{Bytes, Collection, Node, Prop};
+use sgf_tree::{Collection, Node, Prop, SgfText};
 use std::alloc::{AllocError, Global};
 
 /// The player whose moves a property holds.
@@ -30,7 +30,7 @@ pub fn ends(text: &[u8]) -> bool
 }
 
 /// Whether one of the values of B or W ends the line.
-fn holds_end(values: &[Bytes]) -> bool
+fn holds_end(values: &[SgfText]) -> bool
     ensures { (colour : Colour) → result ≡ has_end (map (entry colour) values.now) }
 {
     for value in values {

@@ -9,7 +9,7 @@ use super::error::GameError;
 use super::reading::to_game;
 use super::writing::from_game;
 use hex_game::Game;
-use sgf_tree::{Bytes, Memory, SgfError, parse, print};
+use sgf_tree::{Memory, SgfError, SgfText, parse, print};
 use std::alloc::{AllocError, Global};
 
 /// The game of which the bytes are a record; none exactly if they are no text of a collection (SGF
@@ -31,7 +31,7 @@ pub fn read_game(alloc: Global, bytes: &[u8]) -> Result<Option<Game>, AllocError
 
 /// The text of the game's record (SGF FF[4]), without white space between tokens: what
 /// [`from_game`] makes, printed. It refuses only if memory runs out.
-pub fn game_text(alloc: Global, game: &Game) -> Result<Bytes, Memory>
+pub fn game_text(alloc: Global, game: &Game) -> Result<SgfText, Memory>
     ensures text { IfOk result (λ bytes. bytes ≡ trees_print (record_of game.now)) }
     // So it is read again as the same game.
     ensures record { IfOk result (λ bytes. IsRecordOf bytes game.now) }

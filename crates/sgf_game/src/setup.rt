@@ -10,7 +10,7 @@ ghost use Rattle.sgf_game.specs.Placing.{placed_on};
 use super::values::{has_named, is_named, trimmed};
 use hex_board::Board;
 use hex_cells::{CellSet, Size, read_vertex};
-use sgf_tree::{Bytes, Node};
+use sgf_tree::{Node, SgfText};
 
 /// Whether the node adds stones or takes them away.
 fn changes(node: &Node) -> bool
@@ -33,7 +33,7 @@ fn is_changed_late(root: &Node, behind: &[&Node]) -> bool
 
 /// The stones with those that the values name, each on a cell that is not in `taken` and has none
 /// of these stones yet.
-fn with_values(stones: CellSet, taken: CellSet, values: &[Bytes], size: Size) -> Option<CellSet>
+fn with_values(stones: CellSet, taken: CellSet, values: &[SgfText], size: Size) -> Option<CellSet>
     ensures { result ≡ placed_on taken stones (map (vertex_cell size) (map trimmed values.now)) }
 {
     let mut all = stones;
@@ -68,8 +68,7 @@ pub fn start_of(root: &Node, behind: &[&Node], size: Size) -> Option<Board>
     if is_changed_late(root, behind) {
         return None;
     }
-    // Brings what the type keeps into scope.
-    let _n = size.get();
+    size.keeps();
     let black = stones_named(root, b"AB", CellSet::none(), size)?;
     let white = stones_named(root, b"AW", black, size)?;
     Some(Board::of(size, black, white))

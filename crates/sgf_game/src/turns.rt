@@ -8,7 +8,7 @@ use super::line::{ends, mover};
 use super::values::{spells, trimmed};
 use hex_cells::{Colour, Size, read_vertex};
 use hex_game::Move;
-use sgf_tree::{Bytes, Node};
+use sgf_tree::{Node, SgfText};
 use std::alloc::{AllocError, Global};
 
 /// What the text of a move says.
@@ -64,7 +64,7 @@ fn has_one_move(node: &Node) -> bool
 fn push_values(
     turns: &mut Vec<Turn>,
     colour: Colour,
-    values: &[Bytes],
+    values: &[SgfText],
     size: Size,
     alone: bool,
 ) -> Result<(), AllocError>

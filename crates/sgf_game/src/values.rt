@@ -5,7 +5,7 @@ ghost use Rattle.std.specs.Str.{bytes_eq, str_eq_ignore_ascii_case};
 ghost use Rattle.sgf_game.specs.Values.{without_front_space, trimmed, has_named};
 ghost use Rattle.sgf_game.specs.Values.{first_named};
 
-use sgf_tree::{Bytes, Node, Prop, is_white_space};
+use sgf_tree::{Node, Prop, SgfText, is_white_space};
 
 /// The text without the white space with which it begins.
 fn without_front_space(text: &[u8]) -> &[u8]
@@ -36,7 +36,7 @@ fn without_back_space(text: &[u8]) -> &[u8]
 }
 
 /// A value without the white space at both ends.
-pub fn trimmed(value: &Bytes) -> &[u8]
+pub fn trimmed(value: &SgfText) -> &[u8]
     ensures { result.now ≡ trimmed value.now }
 {
     without_back_space(without_front_space(value.as_slice()))

@@ -13,7 +13,7 @@ ghost use Rattle.sgf_game.specs.Playing.{IsMoveOn};
 use hex_board::Board;
 use hex_cells::{CellSet, Colour, DECIMAL_LEN, Size, VERTEX_LEN, write_decimal, write_vertex};
 use hex_game::{Game, Move, Step};
-use sgf_tree::{Bytes, Collection, Memory, Node, Nodes, Prop, Props, Tree, Trees, Values};
+use sgf_tree::{Collection, Memory, Node, Nodes, Prop, Props, SgfText, Tree, Trees, Values};
 use std::alloc::{AllocError, Global};
 
 /// The record of a game: one tree without kids. Its root has `FF[4]`, `GM[11]`, SZ with the size,
@@ -40,10 +40,7 @@ fn record_is_read_back(game: &Game)
     ensures { game_of (record_of game.now) ≡ Ok game.now }
 {
     let start = game.start();
-    // Brings what the type keeps into scope.
-    let _size = start.size();
-    let _black = start.stones(Colour::Black);
-    let _white = start.stones(Colour::White);
+    start.keeps();
     game.steps_are_legal();
 }
 
@@ -117,9 +114,9 @@ fn prop_of(alloc: Global, name: &[u8], value: &[u8]) -> Result<Prop, AllocError>
     ensures { IfOk result (λ prop. prop ≡ prop_of name.now (value.now ∷ [])) }
 {
     let mut values = Vec::new(alloc);
-    values.push(Bytes::of(value.to_vec(alloc)?))?;
+    values.push(SgfText::of(value.to_vec(alloc)?))?;
     Ok(Prop {
-        name: Bytes::of(name.to_vec(alloc)?),
+        name: SgfText::of(name.to_vec(alloc)?),
         values: Values::of(values),
     })
 }
@@ -139,7 +136,7 @@ fn push_stones(
     let values = vertices(alloc, stones, size)?;
     if !values.is_empty() {
         props.push(Prop {
-            name: Bytes::of(name.to_vec(alloc)?),
+            name: SgfText::of(name.to_vec(alloc)?),
             values: Values::of(values),
         })?;
     }
@@ -147,7 +144,7 @@ fn push_stones(
 }
 
 /// The vertices of the cells, in rising order.
-fn vertices(alloc: Global, stones: CellSet, size: Size) -> Result<Vec<Bytes>, AllocError>
+fn vertices(alloc: Global, stones: CellSet, size: Size) -> Result<Vec<SgfText>, AllocError>
     requires { Within size stones }
     ensures { IfOk result (λ values. values.items ≡ vertices_of size stones) }
 {
@@ -156,7 +153,7 @@ fn vertices(alloc: Global, stones: CellSet, size: Size) -> Result<Vec<Bytes>, Al
     while let Some(cell) = rest.least() {
         let mut vertex = [0; VERTEX_LEN];
         let length = write_vertex(cell, size, &mut vertex);
-        values.push(Bytes::of(vertex[..length].to_vec(alloc)?))?;
+        values.push(SgfText::of(vertex[..length].to_vec(alloc)?))?;
         rest = rest.without(cell);
     }
     Ok(values)

@@ -6,8 +6,8 @@ use Rattle.sgf_tree.specs.declared.reading.Place.{Place}
 use Rattle.sgf_tree.specs.declared.reading.Place.TheVariants.{Between, Opened, InNode, InName}
 use Rattle.sgf_tree.specs.declared.reading.Place.TheVariants.{AfterName, InValue, Escaped}
 use Rattle.sgf_tree.specs.declared.reading.Place.TheVariants.{AfterValue}
-use Rattle.sgf_tree.specs.declared.reading.Stop.{Stop}
-use Rattle.sgf_tree.specs.declared.reading.Stop.TheVariants.{Refused, TooDeep, Memory}
+use Rattle.sgf_tree.specs.declared.reading.ReadingEnd.{ReadingEnd}
+use Rattle.sgf_tree.specs.declared.reading.ReadingEnd.TheVariants.{Refused, TooDeep, Memory}
 use Rattle.sgf_tree.specs.declared.reading.Parent.{Parent}
 use Rattle.sgf_tree.specs.declared.reading.Reading.{Reading}
 use Rattle.sgf_tree.specs.Rows.{row}
@@ -49,12 +49,12 @@ OpensTooMany None = ⊥
 OpensTooMany (Some s) = max_depth < length (open_of s).outer
 
 -- A call that is to come from the open trees old to the state next, or to none, ends so.
-abbrev pub Comes : Option State → Open → Result (Unit {0}) Stop → State → Type 0
+abbrev pub Comes : Option State → Open → Result (Unit {0}) ReadingEnd → State → Type 0
 Comes next old (Ok done) new = (next ≡ Some new) × (IsShallow old → IsShallow (open_of new))
 Comes next old (Err Refused) new = next ≡ None
 Comes next old (Err TooDeep) new = OpensTooMany next
 Comes next old (Err Memory) new = Unit {0}
 
 -- what reading one more byte does
-abbrev pub Reads : State → ℕ → Result (Unit {0}) Stop → State → Type 0
+abbrev pub Reads : State → ℕ → Result (Unit {0}) ReadingEnd → State → Type 0
 Reads old x result new = Comes (step old x) (open_of old) result new

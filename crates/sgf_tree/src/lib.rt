@@ -42,7 +42,7 @@ mod want;
 
 pub use error::SgfError;
 pub use laws::grammar_laws;
-pub use lists::{Bytes, Node, Nodes, Prop, Props, Values};
+pub use lists::{Node, Nodes, Prop, Props, SgfText, Values};
 pub use parsing::parse;
 pub use printing::print;
 pub use reading::is_white_space;

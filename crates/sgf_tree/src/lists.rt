@@ -6,11 +6,11 @@ use std::marker::Model;
 
 /// A list of bytes, each as it stands in memory.
 #[derive(Drop)]
-pub struct Bytes {
+pub struct SgfText {
     items: Vec<u8>,
 }
 
-impl Model for Bytes {
+impl Model for SgfText {
     ghost use Rattle.std.specs.Prelude.{ℕ, List};
 
     ghost Value = { List ℕ };
@@ -18,12 +18,12 @@ impl Model for Bytes {
     ghost view = { λ b. b.items.items };
 }
 
-impl Bytes {
+impl SgfText {
     /// The bytes of this vector. It takes no memory.
-    pub fn of(items: Vec<u8>) -> Bytes
+    pub fn of(items: Vec<u8>) -> SgfText
         ensures { result ≡ items.items }
     {
-        Bytes { items }
+        SgfText { items }
     }
 
     /// Lends the bytes.
@@ -37,7 +37,7 @@ impl Bytes {
 /// The values of a property, in the order in which they stand.
 #[derive(Drop)]
 pub struct Values {
-    items: Vec<Bytes>,
+    items: Vec<SgfText>,
 }
 
 impl Model for Values {
@@ -50,14 +50,14 @@ impl Model for Values {
 
 impl Values {
     /// The values of this vector. It takes no memory.
-    pub fn of(items: Vec<Bytes>) -> Values
+    pub fn of(items: Vec<SgfText>) -> Values
         ensures { result ≡ items.items }
     {
         Values { items }
     }
 
     /// Lends the values.
-    pub fn as_slice(&self) -> &[Bytes]
+    pub fn as_slice(&self) -> &[SgfText]
         ensures { result.now ≡ self.now }
     {
         &self.items
@@ -68,7 +68,7 @@ impl Values {
 #[derive(Drop)]
 pub struct Prop {
     /// Capital letters, at least one in a text.
-    pub name: Bytes,
+    pub name: SgfText,
     /// At least one in a text.
     pub values: Values,
 }

@@ -8,7 +8,7 @@ ghost use Rattle.sgf_tree.specs.Places.{IsTooDeep, IsRefusedAt};
 ghost use Rattle.sgf_tree.specs.Verdict.{OrMemory, Finds};
 
 use crate::error::SgfError;
-use crate::reading::{Reading, Stop};
+use crate::reading::{Reading, ReadingEnd};
 use crate::trees::Collection;
 use std::alloc::Global;
 
@@ -48,9 +48,9 @@ fn read_all(alloc: Global, bytes: &[u8]) -> Result<Reading, SgfError>
     for (at, byte) in bytes.iter().enumerate() {
         match reading.read(*byte) {
             Ok(()) => {}
-            Err(Stop::Refused) => return Err(SgfError::NotSgf { at }),
-            Err(Stop::TooDeep) => return Err(SgfError::TooDeep),
-            Err(Stop::Memory) => return Err(SgfError::Memory),
+            Err(ReadingEnd::Refused) => return Err(SgfError::NotSgf { at }),
+            Err(ReadingEnd::TooDeep) => return Err(SgfError::TooDeep),
+            Err(ReadingEnd::Memory) => return Err(SgfError::Memory),
         }
     }
     Ok(reading)

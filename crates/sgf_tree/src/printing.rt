@@ -7,7 +7,7 @@ ghost use Rattle.sgf_tree.specs.Rows.{row};
 ghost use Rattle.sgf_tree.specs.Printing.{byte_print, value_print, prop_print, node_print};
 ghost use Rattle.sgf_tree.specs.Printing.{trees_print, HasText, max_depth};
 
-use crate::lists::{Bytes, Node, Prop};
+use crate::lists::{Node, Prop, SgfText};
 use crate::trees::{Collection, Tree};
 use crate::want::Memory;
 use std::alloc::{AllocError, Global};
@@ -15,7 +15,7 @@ use std::alloc::{AllocError, Global};
 /// Prints a collection: its text without white space between tokens, in which exactly the bytes
 /// `]` and backslash of a value have a backslash before them. The recursion goes as deep as the
 /// trees nest. It refuses only if memory runs out.
-pub fn print(alloc: Global, collection: &Collection) -> Result<Bytes, Memory>
+pub fn print(alloc: Global, collection: &Collection) -> Result<SgfText, Memory>
     requires shallow { depth collection.now.trees ≤ max_depth }
     requires text { HasText collection.now.trees }
     ensures printed { IfOk result (λ bytes. bytes ≡ trees_print collection.now.trees) }
@@ -24,7 +24,7 @@ pub fn print(alloc: Global, collection: &Collection) -> Result<Bytes, Memory>
 {
     let mut out = Vec::new(alloc);
     match push_trees(&mut out, collection.trees.as_slice()) {
-        Ok(()) => Ok(Bytes::of(out)),
+        Ok(()) => Ok(SgfText::of(out)),
         Err(_) => Err(Memory),
     }
 }
@@ -70,7 +70,7 @@ fn push_props(out: &mut Vec<u8>, props: &[Prop]) -> Result<(), AllocError>
     Ok(())
 }
 
-fn push_values(out: &mut Vec<u8>, values: &[Bytes]) -> Result<(), AllocError>
+fn push_values(out: &mut Vec<u8>, values: &[SgfText]) -> Result<(), AllocError>
     ensures { OnOk result (out.new.items ≡ out.old.items ++ flat_map value_print values.now) }
 {
     for value in values {

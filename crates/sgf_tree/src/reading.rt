@@ -8,7 +8,7 @@ ghost use Rattle.sgf_tree.specs.Trees.{GameTrees};
 ghost use Rattle.sgf_tree.specs.Verdict.{IsFinal};
 ghost use Rattle.sgf_tree.specs.ReadingStates.{state_of, trees_of, Comes, Reads};
 
-use crate::lists::{Bytes, Node, Nodes, Prop, Props, Values};
+use crate::lists::{Node, Nodes, Prop, Props, SgfText, Values};
 use crate::trees::{Collection, Tree, Trees};
 use std::alloc::Global;
 use std::mem;
@@ -19,7 +19,7 @@ pub(crate) const MAX_OPEN: usize = 64;
 
 /// What ends the reading.
 #[derive(Clone, Copy)]
-pub(crate) enum Stop {
+pub(crate) enum ReadingEnd {
     /// The byte can't stand here.
     Refused,
     /// The byte opens one tree too many.
@@ -69,7 +69,7 @@ pub(crate) struct Reading {
     kids: Vec<Tree>,
     props: Vec<Prop>,
     name: Vec<u8>,
-    values: Vec<Bytes>,
+    values: Vec<SgfText>,
     value: Vec<u8>,
 }
 
@@ -105,7 +105,7 @@ impl Reading {
     }
 
     /// Reads one more byte. After an `Err` nothing more may be read.
-    pub(crate) fn read(&mut self, byte: u8) -> Result<(), Stop>
+    pub(crate) fn read(&mut self, byte: u8) -> Result<(), ReadingEnd>
         ensures { Reads (state_of self.old) byte result (state_of self.new) }
     {
         match self.place {
@@ -138,7 +138,7 @@ impl Reading {
         Some(Collection { trees })
     }
 
-    fn between(&mut self, byte: u8) -> Result<(), Stop>
+    fn between(&mut self, byte: u8) -> Result<(), ReadingEnd>
         requires { self.old.place ≡ Place.Between }
         ensures { Reads (state_of self.old) byte result (state_of self.new) }
     {
@@ -148,7 +148,7 @@ impl Reading {
         self.turn(byte)
     }
 
-    fn opened(&mut self, byte: u8) -> Result<(), Stop>
+    fn opened(&mut self, byte: u8) -> Result<(), ReadingEnd>
         requires { self.old.place ≡ Place.Opened }
         ensures { Reads (state_of self.old) byte result (state_of self.new) }
     {
@@ -160,10 +160,10 @@ impl Reading {
             self.place = Place::InNode;
             return Ok(());
         }
-        Err(Stop::Refused)
+        Err(ReadingEnd::Refused)
     }
 
-    fn in_node(&mut self, byte: u8) -> Result<(), Stop>
+    fn in_node(&mut self, byte: u8) -> Result<(), ReadingEnd>
         requires { self.old.place ≡ Place.InNode }
         ensures { Reads (state_of self.old) byte result (state_of self.new) }
     {
@@ -173,13 +173,13 @@ impl Reading {
         self.go_on(byte)
     }
 
-    fn in_name(&mut self, byte: u8) -> Result<(), Stop>
+    fn in_name(&mut self, byte: u8) -> Result<(), ReadingEnd>
         requires { self.old.place ≡ Place.InName }
         ensures { Reads (state_of self.old) byte result (state_of self.new) }
     {
         if is_capital(byte) {
             if self.name.push(byte).is_err() {
-                return Err(Stop::Memory);
+                return Err(ReadingEnd::Memory);
             }
             return Ok(());
         }
@@ -187,7 +187,7 @@ impl Reading {
         self.after_name(byte)
     }
 
-    fn after_name(&mut self, byte: u8) -> Result<(), Stop>
+    fn after_name(&mut self, byte: u8) -> Result<(), ReadingEnd>
         requires { self.old.place ≡ Place.AfterName }
         ensures { Reads (state_of self.old) byte result (state_of self.new) }
     {
@@ -200,10 +200,10 @@ impl Reading {
             self.place = Place::InValue;
             return Ok(());
         }
-        Err(Stop::Refused)
+        Err(ReadingEnd::Refused)
     }
 
-    fn in_value(&mut self, byte: u8) -> Result<(), Stop>
+    fn in_value(&mut self, byte: u8) -> Result<(), ReadingEnd>
         requires { self.old.place ≡ Place.InValue }
         ensures { Reads (state_of self.old) byte result (state_of self.new) }
     {
@@ -215,23 +215,23 @@ impl Reading {
             return self.end_value();
         }
         if self.value.push(byte).is_err() {
-            return Err(Stop::Memory);
+            return Err(ReadingEnd::Memory);
         }
         Ok(())
     }
 
-    fn escaped(&mut self, byte: u8) -> Result<(), Stop>
+    fn escaped(&mut self, byte: u8) -> Result<(), ReadingEnd>
         requires { self.old.place ≡ Place.Escaped }
         ensures { Reads (state_of self.old) byte result (state_of self.new) }
     {
         if self.value.push(byte).is_err() {
-            return Err(Stop::Memory);
+            return Err(ReadingEnd::Memory);
         }
         self.place = Place::InValue;
         Ok(())
     }
 
-    fn after_value(&mut self, byte: u8) -> Result<(), Stop>
+    fn after_value(&mut self, byte: u8) -> Result<(), ReadingEnd>
         requires { self.old.place ≡ Place.AfterValue }
         ensures { Reads (state_of self.old) byte result (state_of self.new) }
     {
@@ -249,14 +249,14 @@ impl Reading {
 
     /// What may follow the properties of a node: a letter begins a name, and `;`, `(` and `)` end
     /// the node.
-    fn go_on(&mut self, byte: u8) -> Result<(), Stop>
+    fn go_on(&mut self, byte: u8) -> Result<(), ReadingEnd>
         ensures { Comes (go_on (trees_of self.old) self.old.props.items byte) (trees_of self.old)
             result (state_of self.new) }
     {
         if is_capital(byte) {
             self.name.clear();
             if self.name.push(byte).is_err() {
-                return Err(Stop::Memory);
+                return Err(ReadingEnd::Memory);
             }
             self.place = Place::InName;
             return Ok(());
@@ -270,7 +270,7 @@ impl Reading {
     }
 
     /// What may follow a tree inside another: `(` opens one, and `)` closes one.
-    fn turn(&mut self, byte: u8) -> Result<(), Stop>
+    fn turn(&mut self, byte: u8) -> Result<(), ReadingEnd>
         ensures { Comes (turn (trees_of self.old) byte) (trees_of self.old)
             result (state_of self.new) }
     {
@@ -280,78 +280,78 @@ impl Reading {
         if byte == b')' {
             return self.close_tree();
         }
-        Err(Stop::Refused)
+        Err(ReadingEnd::Refused)
     }
 
-    fn open_tree(&mut self) -> Result<(), Stop>
+    fn open_tree(&mut self) -> Result<(), ReadingEnd>
         ensures { Comes (Some (opened (open_tree (trees_of self.old)))) (trees_of self.old)
             result (state_of self.new) }
     {
         if self.outer.len() >= MAX_OPEN {
-            return Err(Stop::TooDeep);
+            return Err(ReadingEnd::TooDeep);
         }
         let nodes = mem::replace(&mut self.nodes, Vec::new(self.alloc));
         let kids = mem::replace(&mut self.kids, Vec::new(self.alloc));
         if self.outer.push(Parent { nodes, kids }).is_err() {
-            return Err(Stop::Memory);
+            return Err(ReadingEnd::Memory);
         }
         self.place = Place::Opened;
         Ok(())
     }
 
-    fn close_tree(&mut self) -> Result<(), Stop>
+    fn close_tree(&mut self) -> Result<(), ReadingEnd>
         ensures { let o = trees_of self.old in
             Comes (close_into o.outer o.nodes o.kids) o result (state_of self.new) }
     {
         let Some(parent) = self.outer.pop() else {
-            return Err(Stop::Refused);
+            return Err(ReadingEnd::Refused);
         };
         let nodes = Nodes::of(mem::replace(&mut self.nodes, parent.nodes));
         let kids = Trees::of(mem::replace(&mut self.kids, parent.kids));
         if self.kids.push(Tree { nodes, kids }).is_err() {
-            return Err(Stop::Memory);
+            return Err(ReadingEnd::Memory);
         }
         self.place = Place::Between;
         Ok(())
     }
 
     /// Ends the open node, which has these properties.
-    fn end_node(&mut self) -> Result<(), Stop>
+    fn end_node(&mut self) -> Result<(), ReadingEnd>
         ensures node { OnOk result
             (trees_of self.new ≡ add_node (trees_of self.old) self.old.props.items) }
         ensures fresh { OnOk result (self.new.props.items ≡ []) }
-        ensures memory { OnErr result (result ≡ Err Stop.Memory) }
+        ensures memory { OnErr result (result ≡ Err ReadingEnd.Memory) }
     {
         let props = Props::of(mem::replace(&mut self.props, Vec::new(self.alloc)));
         if self.nodes.push(Node { props }).is_err() {
-            return Err(Stop::Memory);
+            return Err(ReadingEnd::Memory);
         }
         Ok(())
     }
 
     /// Ends the open property, which has these values.
-    fn end_prop(&mut self) -> Result<(), Stop>
+    fn end_prop(&mut self) -> Result<(), ReadingEnd>
         ensures prop { OnOk result (self.new.props.items
             ≡ add_prop self.old.props.items self.old.name.items self.old.values.items) }
         ensures trees { OnOk result (trees_of self.new ≡ trees_of self.old) }
-        ensures memory { OnErr result (result ≡ Err Stop.Memory) }
+        ensures memory { OnErr result (result ≡ Err ReadingEnd.Memory) }
     {
-        let name = Bytes::of(mem::replace(&mut self.name, Vec::new(self.alloc)));
+        let name = SgfText::of(mem::replace(&mut self.name, Vec::new(self.alloc)));
         let values = Values::of(mem::replace(&mut self.values, Vec::new(self.alloc)));
         if self.props.push(Prop { name, values }).is_err() {
-            return Err(Stop::Memory);
+            return Err(ReadingEnd::Memory);
         }
         Ok(())
     }
 
     /// Ends the open value.
-    fn end_value(&mut self) -> Result<(), Stop>
+    fn end_value(&mut self) -> Result<(), ReadingEnd>
         requires { self.old.place ≡ Place.InValue }
         ensures { Reads (state_of self.old) 93 result (state_of self.new) }
     {
-        let value = Bytes::of(mem::replace(&mut self.value, Vec::new(self.alloc)));
+        let value = SgfText::of(mem::replace(&mut self.value, Vec::new(self.alloc)));
         if self.values.push(value).is_err() {
-            return Err(Stop::Memory);
+            return Err(ReadingEnd::Memory);
         }
         self.place = Place::AfterValue;
         Ok(())

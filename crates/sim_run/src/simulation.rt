@@ -28,8 +28,7 @@ impl Simulation {
         ensures walkers { IfOk result (λ run. AreNew shape.now run.walkers.items) }
         ensures underway { IfOk result IsUnderway }
     {
-        // Brings what the type keeps into scope.
-        let _board = shape.board();
+        shape.keeps();
         let words = make_opening(alloc, shape)?;
         let walkers = new_walkers(alloc, shape)?;
         Ok(Simulation {

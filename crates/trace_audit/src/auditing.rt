@@ -24,8 +24,7 @@ fn first_failure(alloc: Global, shape: &Shape, words: &Words) -> Result<Option<F
     requires { length words.now ≡ end_of shape.now }
     ensures { IfOk result (λ failure. IsFirstFailure shape.now words.now failure) }
 {
-    // Brings what the type keeps into scope.
-    let _board = shape.board();
+    shape.keeps();
     let Some(table) = link(alloc, shape, words)? else {
         return Ok(Some(Flaw::Block));
     };

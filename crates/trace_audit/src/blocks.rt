@@ -19,7 +19,7 @@ fn same_block(words: &Words, at: usize, block: &[u64; MOST_BLOCK_WORDS], size: u
     requires few { size ≤ MOST_BLOCK_WORDS }
     ensures { IsTrue result ↔ ShowsWords words.now at block.now size }
 {
-    // Brings what the type keeps into scope.
+    // Bounds the places of words.
     let _len = words.len();
     'words: for i in 0..size {
         if (i < HEADER_WORDS || i % NODE_WORDS == 0) && words.at(at + i) != block[i] {
@@ -57,8 +57,7 @@ pub(crate) fn block_end(
     ensures { IsBlockEnd shape.now words.now at
         (block_at shape.now board.now parent at) result }
 {
-    // Brings what the type keeps into scope.
-    let _board = shape.board();
+    shape.keeps();
     let empties = board.empties();
     let cells = cells_below(shape, parent, board);
     let mut block = [0; MOST_BLOCK_WORDS];

@@ -59,8 +59,7 @@ pub(crate) fn is_exact(words: &Words, shape: &Shape, table: &Table, sums: &[u64]
     requires sums { HasSumsOf shape.now words.now table.now sums.now shape.now.knobs.playouts }
     ensures { TellsExact shape.now words.now table.now sums.now result }
 {
-    // Brings what the type keeps into scope.
-    let _board = shape.board();
+    shape.keeps();
     let root = shape.root() as usize;
     if words.at(root + TALLY_WORD) != sums[root + TALLY_WORD] {
         return false;

@@ -24,7 +24,7 @@ fn has_unvisited(words: &Words, block: usize) -> bool
     ensures { MatchBool result (IsSomeUnvisited words.now block)
         (AreVisited words.now block) }
 {
-    // Brings what the type keeps into scope.
+    // Bounds the places of words.
     let _len = words.len();
     let count = words.at(block + COUNT_WORD) as usize;
     'nodes: for place in 0..count {
@@ -42,7 +42,7 @@ fn has_more(words: &Words, block: usize, most: u32) -> bool
     ensures { MatchBool result (IsSomeAbove words.now block most)
         (AreUpTo words.now block most) }
 {
-    // Brings what the type keeps into scope.
+    // Bounds the places of words.
     let _len = words.len();
     let count = words.at(block + COUNT_WORD) as usize;
     'nodes: for place in 0..count {
@@ -92,8 +92,7 @@ fn is_next_bounded(words: &Words, shape: &Shape, others: usize) -> bool
     ensures { MatchBool result (IsNextBounded shape.now words.now others)
         (¬ (IsNextBounded shape.now words.now others)) }
 {
-    // Brings what the type keeps into scope.
-    let _board = shape.board();
+    shape.keeps();
     let root = shape.root() as usize;
     let block = words.at(root + LINK_WORD) as usize;
     let root_end = block + HEADER_WORDS + NODE_WORDS * words.at(block + COUNT_WORD) as usize;
@@ -137,8 +136,7 @@ pub(crate) fn is_grown(words: &Words, shape: &Shape, table: &Table, sums: &[u64]
     requires sums { HasAllSums shape.now words.now table.now sums.now }
     ensures { TellsGrown shape.now words.now table.now sums.now result }
 {
-    // Brings what the type keeps into scope.
-    let _board = shape.board();
+    shape.keeps();
     let knobs = shape.knobs();
     if !each_first(words, table, knobs.workers) {
         return false;

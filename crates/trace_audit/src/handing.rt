@@ -95,8 +95,7 @@ fn hand_up(words: &Words, shape: &Shape, sums: &mut [u64], at: usize)
     requires sums { MayHandUp shape.now words.now sums.old at }
     ensures { HandsUp shape.now words.now sums.old sums.new at }
 {
-    // Brings what the type keeps into scope.
-    let _board = shape.board();
+    shape.keeps();
     let amount = turned(sums[at]);
     let parent = words.at(at) as usize;
     if parent == shape.root() as usize {
@@ -115,8 +114,7 @@ pub(crate) fn hand_all(words: &Words, shape: &Shape, table: &Table, sums: &mut [
     requires sums { HasOwnSums shape.now words.now table.now sums.old shape.now.knobs.playouts }
     ensures { HandsAll shape.now words.now table.now sums.old sums.new }
 {
-    // Brings what the type keeps into scope.
-    let _board = shape.board();
+    shape.keeps();
     let area = shape.area() as usize;
     let mut at = words.len();
     'words: while area < at {

@@ -42,8 +42,7 @@ fn pass_block(
     ensures { IfOk result
         (λ to. PassesBlock shape.now words.now table.old table.new at to) }
 {
-    // Brings what the type keeps into scope.
-    let _board = shape.board();
+    shape.keeps();
     let site = table.sites[table.index.entry(at) as usize - 1];
     let parent = words.at(at) as usize;
     let Some(end) = block_end(words, shape, at, parent, &site.board) else {
@@ -66,8 +65,7 @@ fn begin(alloc: Global, shape: &Shape, words: &Words) -> Result<Option<Table>, M
     ensures { IfOk result (λ table. MatchOption table (AreUnlinked shape.now words.now)
         (IsScanBegun shape.now words.now)) }
 {
-    // Brings what the type keeps into scope.
-    let _board = shape.board();
+    shape.keeps();
     let mut table = Table {
         index: Index::empty(alloc, words.len())?,
         sites: Vec::new(alloc),
@@ -92,8 +90,7 @@ pub(crate) fn link(alloc: Global, shape: &Shape, words: &Words) -> Result<Option
     ensures { IfOk result (λ table. MatchOption table (AreUnlinked shape.now words.now)
         (IsLinkTable shape.now words.now)) }
 {
-    // Brings what the type keeps into scope.
-    let _board = shape.board();
+    shape.keeps();
     let Some(mut table) = begin(alloc, shape, words)? else {
         return Ok(None);
     };

@@ -93,8 +93,7 @@ fn read_header(bytes: &[u8]) -> Option<Header>
     let Some(shape) = shape_of(&fields) else {
         return None;
     };
-    // Brings what the type keeps into scope.
-    let _board = shape.board();
+    shape.keeps();
     let Some(count) = count_in(&shape, fields[COUNT_FIELD], bytes.len() - HEADER_BYTES) else {
         return None;
     };
@@ -109,8 +108,7 @@ fn cut_at(shape: &Shape, count: usize) -> Shape
     ensures less { end_of result ≤ end_of shape.now }
     ensures enough { count ≤ end_of result }
 {
-    // Brings what the type keeps into scope.
-    let _knobs = shape.knobs();
+    shape.keeps();
     let written = count - shape.area() as usize;
     shape.narrowed((written as u32).max(LEAST_WORDS))
 }
@@ -122,8 +120,7 @@ pub(crate) fn read_text<'a>(bytes: &'a [u8]) -> Option<Text<'a>>
     let Some(header) = read_header(bytes) else {
         return None;
     };
-    // Brings what the type keeps into scope.
-    let _board = header.shape.board();
+    header.shape.keeps();
     let cut = cut_at(&header.shape, header.count);
     let end = HEADER_BYTES + WORD_BYTES * header.count;
     let words = Words::of(&bytes[HEADER_BYTES..end], cut.total() as usize);

@@ -80,8 +80,8 @@ fn ending_of(site: &Site, seed: u64, k: u64) -> Ending
     ensures filled { IsFullBoard site.now.board.size result.full }
 {
     let full = fill(&site.board, site.player, seed, k);
-    // Brings what the type keeps into scope: a board's stones lie apart.
-    let _black = full.stones(Colour::Black);
+    // A board's stones lie apart.
+    full.keeps();
     let winner = if full.joined(Colour::Black) {
         Colour::Black
     } else {
@@ -97,8 +97,7 @@ fn add(words: &Words, shape: &Shape, table: &Table, sums: &mut [u64], k: u32) ->
     requires sums { HasOwnSums shape.now words.now table.now sums.old k }
     ensures { AddsPlayout shape.now words.now table.now sums.old sums.new k result }
 {
-    // Brings what the type keeps into scope.
-    let _board = shape.board();
+    shape.keeps();
     let word = words.at(RECORDS_AT + k as usize);
     let Some(block) = block_of(words, table, word / RECORD_UNIT) else {
         return false;
@@ -124,8 +123,7 @@ pub(crate) fn sum(
     requires linked { IsLinkTable shape.now words.now table.now }
     ensures { IfOk result (λ sums. AddsPlayouts shape.now words.now table.now sums) }
 {
-    // Brings what the type keeps into scope.
-    let _board = shape.board();
+    shape.keeps();
     let mut sums = zeros(alloc, words.len())?;
     'records: for k in 0..shape.knobs().playouts {
         if !add(words, shape, table, &mut sums, k) {

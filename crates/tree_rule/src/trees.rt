@@ -87,8 +87,7 @@ impl Tree {
         ensures order { IfOk result (λ t. IsView t.1.view) }
         ensures rule { IfOk result (λ t. BeginsInRule t.0.shape t.1.view) }
     {
-        // Brings what the type keeps into scope.
-        let _board = shape.board();
+        shape.keeps();
         let room = make_opening(alloc, shape)?;
         let Ok((table, seat)) = Table::of_words(alloc, room.as_slice(), shape) else {
             return Err(Memory);
@@ -106,7 +105,6 @@ impl Tree {
     pub(crate) fn quiet_word(&self) -> u32
         ensures { result < end_of self.now.shape }
     {
-        // Brings what the type keeps into scope.
         let playouts = self.shape.knobs().playouts;
         RECORDS_AT as u32 + playouts / 2
     }

@@ -9,7 +9,7 @@ use Rattle.tree_words.specs.declared.layout.TheConstants.{LINK_WORD, TALLY_WORD,
 use Rattle.tree_words.specs.declared.layout.TheConstants.{LOW_EMPTIES_WORD, HIGH_EMPTIES_WORD}
 use Rattle.tree_words.specs.declared.layout.TheConstants.{COUNT_WORD, HIGH_EMPTIES_SHIFT}
 use Rattle.tree_words.specs.declared.layout.TheConstants.{PLACE_UNIT, VISITS_SHIFT, RECORD_UNIT}
-use Rattle.tree_words.specs.declared.types.Node.{Node}
+use Rattle.tree_words.specs.declared.types.NodeFields.{NodeFields}
 use Rattle.tree_words.specs.declared.types.Block.{Block}
 
 -- the first word of the root node, behind NEXT, TICKET and the records
@@ -79,7 +79,7 @@ abbrev pub seen_in : List ℕ → ℕ → Count
 seen_in words x = count_in (slice_index words (x + SEEN_WORD))
 
 -- the fields of the node at x
-abbrev pub node_in : List ℕ → ℕ → Node
+abbrev pub node_in : List ℕ → ℕ → NodeFields
 node_in words x = record {
   cell = cell_in (slice_index words x);
   place = place_in (slice_index words x);

@@ -40,13 +40,21 @@ impl Closed {
         Closed { shape, words }
     }
 
+    /// Does nothing: that the tree is closed, and its shape a setting, is known after the call.
+    #[inline]
+    pub fn keeps(&self)
+        ensures setting { IsSetting self.now.shape }
+        ensures closed { IsClosed self.now.shape self.now.words }
+    {
+        self.shape.keeps();
+    }
+
     /// The shape.
     pub fn shape(&self) -> &Shape
         ensures value { result.now ≡ self.now.shape }
         ensures setting { IsSetting result.now }
     {
-        // Brings what the type keeps into scope.
-        let _board = self.shape.board();
+        self.shape.keeps();
         &self.shape
     }
 
@@ -76,8 +84,7 @@ impl Closed {
         ensures inside { IfSome result (λ _.
             min (next_in self.words) (end_of shape.now) ≤ end_of self.shape) }
     {
-        // Brings what the type keeps into scope.
-        let _board = shape.board();
+        shape.keeps();
         let next = self.word(NEXT_AT);
         let Closed { shape: _, words } = self;
         if next.min(u64::from(shape.total())) > words.len() as u64 {

@@ -9,7 +9,7 @@ use super::layout::{
     COUNT_WORD, HEADER_WORDS, HIGH_EMPTIES_SHIFT, HIGH_EMPTIES_WORD, LINK_WORD, LOW_EMPTIES_WORD,
     NODE_WORDS, PLACE_UNIT, SEEN_WORD, TALLY_WORD, VISIT, VISITS_SHIFT,
 };
-use super::types::{Block, Node};
+use super::types::{Block, NodeFields};
 use hex_cells::{CellSet, MOST_CELLS};
 
 /// The number of the cell that a move word has.
@@ -35,7 +35,7 @@ pub fn wins_of(word: u64) -> u32
 
 /// The fields of the node whose first word is `at`. Its words lie within the words, and its place
 /// and its link are below 2^32.
-pub fn node(words: &[u64], at: u32) -> Node
+pub fn node(words: &[u64], at: u32) -> NodeFields
     requires within { at + NODE_WORDS ≤ length words.now }
     requires place { place_in (slice_index words.now at) < 2 ^ 32 }
     requires link { link_in words.now at < 2 ^ 32 }
@@ -44,7 +44,7 @@ pub fn node(words: &[u64], at: u32) -> Node
     let at = at as usize;
     let tally = words[at + TALLY_WORD];
     let seen = words[at + SEEN_WORD];
-    Node {
+    NodeFields {
         cell: cell_of(words[at]),
         place: (words[at] / PLACE_UNIT) as u32,
         link: words[at + LINK_WORD] as u32,

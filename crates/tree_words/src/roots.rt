@@ -44,8 +44,7 @@ impl Closed {
         ensures root { HasRoot self.now.shape self.now.words }
         ensures range { root_end self.now.shape self.now.words < 2 ^ 32 }
     {
-        // Brings what the type keeps into scope.
-        let _words = self.words();
+        self.keeps();
         let root = self.shape().root() as usize;
         self.word(root + LINK_WORD) as usize
     }

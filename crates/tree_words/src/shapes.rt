@@ -64,16 +64,21 @@ impl Shape {
           knobs = knobs.now;
         } }
     {
-        // Brings what the type keeps into scope, so that the shape keeps it too.
-        let _size = board.size();
-        let _black = board.stones(Colour::Black);
-        let _white = board.stones(Colour::White);
+        board.keeps();
         Shape {
             board: *board,
             colour,
             allowed,
             knobs: *knobs,
         }
+    }
+
+    /// Does nothing: that the shape is a setting is known after the call.
+    #[inline]
+    pub fn keeps(&self)
+        ensures setting { IsSetting self.now }
+    {
+        let _ = &self.board;
     }
 
     /// The board.

@@ -4,7 +4,7 @@ use hex_cells::CellSet;
 
 /// The fields of a node.
 #[derive(Clone, Copy, Debug, PartialEq, Eq)]
-pub struct Node {
+pub struct NodeFields {
     /// The number of its cell; 0 for the root.
     pub cell: u32,
     /// Its place in its block, from 0; 0 for the root.

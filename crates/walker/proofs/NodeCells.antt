@@ -21,12 +21,12 @@ unfolding cells_by_number
 by-number-none set none = none_pass (has_cell set) 0 121 (λ i l. none i)
 
 -- if none is listed, the set has no cell
-pub by-number-empty : (set bits : ℕ) → bits ≡ set → bits < 2 ^ 121 → cells_by_number set ≡ []
+pub by-number-empty : (set : ℕ) → set < 2 ^ 121 → cells_by_number set ≡ []
     → (k : ℕ) → has_cell set k ≡ false
 unfolding cells_by_number
-by-number-empty set bits is small e k = ⊎_elim
+by-number-empty set small e k = ⊎_elim
     (λ (l : k < 121). false_from_ne_true (has_cell set k) (λ t. absurd (none-cons (has_cell set) 0 121 k (omega arith) (omega (arith, l)) t e)))
-    (λ (l : 121 ≤ k). sym (ap (λ (s : ℕ). has_cell s k) is) ∙ has_above bits 121 k small l)
+    (λ (l : 121 ≤ k). has_above set 121 k small l)
     (cases_lt k 121)
 
 -- the least cell is the first
@@ -47,5 +47,6 @@ by-number-empties set p small e =
     let most : n ≤ 11 * 11 = mul-le-mul small small in
     let all : n + (121 - n) ≡ 121 = omega (arith, most) in
     ap (λ (z : ℕ). filter (has_cell set) (range_with_len 0 z)) (sym all)
-    ∙ (longer_pass (has_cell set) 0 n (121 - n) (λ i l. false_from_ne_true (has_cell set i) (λ t. let on : i < n = empty_on p i (sym (e i) ∙ t) in omega (arith, l, on)))
+    ∙ (longer_pass (has_cell set) 0 n (121 - n) (λ i l. false_from_ne_true (has_cell set i)
+    (λ t. let on : i < n = empty_on p i (sym (e i) ∙ t) in omega (arith, l, on)))
     ∙ empties-listed set p e)

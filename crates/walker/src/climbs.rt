@@ -90,8 +90,8 @@ impl Climb {
         requires { block < PAST_WORDS }
         ensures { result ≡ seen_adds stones won (block + HEADER_WORDS) (listed size cells) }
     {
-        // Brings what the type keeps into scope: the size bounds the cells.
-        let _size = size.get();
+        // The size bounds the cells.
+        size.keeps();
         let added = cells.meet(stones).meet(CellSet::all(size));
         let (low_cells, high_cells) = halves(cells);
         let (low_left, high_left) = halves(added);
@@ -131,11 +131,7 @@ impl Climb {
     pub fn again(&self) -> Climb
         ensures { result ≡ self.now }
     {
-        Climb {
-            won: self.won,
-            half: self.half,
-            next: self.next,
-        }
+        Climb { ..*self }
     }
 
     /// The next add; Done if none is left.

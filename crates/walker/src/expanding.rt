@@ -22,8 +22,8 @@ impl Walker {
         ensures value { result ≡ length (empties_of self.now.board) }
         ensures range { result ≤ MOST_NODES }
     {
-        // Brings what the type keeps into scope: the size bounds the board's cells.
-        let _size = self.board.size();
+        // The size bounds the board's cells.
+        self.board.keeps();
         self.board.empties().count()
     }
 
@@ -94,8 +94,8 @@ impl Walker {
         ensures value { result ≡ slice_index (empties_of self.now.board) place }
         ensures range { result < 2 ^ 8 }
     {
-        // Brings what the type keeps into scope: the size bounds the board's cells.
-        let _size = self.board.size();
+        // The size bounds the board's cells.
+        self.board.keeps();
         if place < self.empty_count() {
             self.board.empties().nth(place).number()
         } else {
@@ -124,8 +124,8 @@ impl Walker {
     pub fn new_nodes(&self) -> Option<NewNodes>
         ensures { LendsNewNodes self.now result }
     {
-        // Brings what the type keeps into scope: the size bounds the board's cells.
-        let _size = self.board.size();
+        // The size bounds the board's cells.
+        self.board.keeps();
         let written = self.at.saturating_sub(self.start);
         match self.stage {
             Stage::Writing if written == HEADER_WORDS as u32 => {

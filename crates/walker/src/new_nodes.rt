@@ -56,8 +56,7 @@ impl NewNodes {
     pub fn is_done(&self) -> bool
         ensures { IsTrue result ↔ (self.now.cells ≡ []) }
     {
-        // Brings what the type keeps into scope: no bit past the cells of a board is set.
-        let _bits = self.left.bits();
+        self.left.keeps();
         self.left.is_empty()
     }
 
@@ -114,7 +113,7 @@ fn least_and_rest(cells: CellSet) -> (Cell, CellSet)
 {
     match cells.least() {
         Some(cell) => {
-            // Brings what the type keeps into scope: the cell is one of a board.
+            // The cell is one of a board.
             let _number = cell.number();
             (cell, cells.without(cell))
         }

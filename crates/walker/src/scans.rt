@@ -95,19 +95,7 @@ impl Scan {
     pub fn again(&self) -> Scan
         ensures { result ≡ self.now }
     {
-        Scan {
-            parent: self.parent,
-            count: self.count,
-            at: self.at,
-            phase: self.phase,
-            place: self.place,
-            tally: self.tally,
-            best: self.best,
-            visits: self.visits,
-            most: self.most,
-            bar: self.bar,
-            fresh: self.fresh,
-        }
+        Scan { ..*self }
     }
 
     /// The next look.

@@ -29,7 +29,7 @@ pub fn cut(alloc: Global, report: &Report, entry: u32) -> Result<Cert, Memory>
     ensures lines { IfOk result (HasLinesFor report.now entry) }
 {
     let store = report.store();
-    // Brings what the type keeps into scope: the player's stones lie on the board.
+    // The player's stones lie on the board.
     let _stones = store.board().stones(store.colour());
     let mut lines = Vec::new(alloc);
     let claimed = lines_onto(alloc, store, &[entry], &mut lines)?;
@@ -81,8 +81,7 @@ fn derived_onto(
         (λ v. DerivesOnto store.now asked.now out.old.items out.new.items v.items) }
 {
     let entries = store.entries();
-    // Brings what the type keeps into scope: the player's stones lie on the board, apart from
-    // the opponent's.
+    // The player's stones lie on the board, apart from the opponent's.
     let _stones = store.board().stones(store.colour());
     let mut renamed = Vec::new(alloc);
     let mut number = 0;

@@ -13,8 +13,8 @@ pub fn edge_numbers(store: &Store, kind: Kind) -> Held
     ensures few { result.count ≤ MOST_SEMI }
     ensures numbers { AreEdgeNumbers store.now kind result }
 {
-    // Brings what the type keeps into scope: each entry has the lesser of its elements first.
-    let _entries = store.entries();
+    // Each entry has the lesser of its elements first.
+    store.keeps();
     let elements = store.elements();
     store.held(elements.edge(false), elements.edge(true), kind)
 }

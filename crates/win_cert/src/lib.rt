@@ -83,7 +83,7 @@ pub use edges::edge_numbers;
 pub use laws::{accepted_certificates_win, claimed_moves_win};
 pub use limits::limits_are_those_of_the_manual;
 pub use lines::{End, LEAST_CASES, LEAST_MANY, Line, Lines, MOST_CASES, MOST_NUMBER};
-pub use lists::{Bytes, Numbers};
+pub use lists::{CertText, Numbers};
 pub use raising::raise;
 pub use reading::read;
 pub use reasons::Reason;

@@ -6,11 +6,11 @@ use std::marker::Model;
 
 /// The bytes of a text.
 #[derive(Debug, Drop)]
-pub struct Bytes {
+pub struct CertText {
     items: Vec<u8>,
 }
 
-impl Model for Bytes {
+impl Model for CertText {
     ghost use Rattle.std.specs.Prelude.{ℕ, List};
 
     ghost Value = { List ℕ };
@@ -18,12 +18,12 @@ impl Model for Bytes {
     ghost view = { λ b. b.items.items };
 }
 
-impl Bytes {
+impl CertText {
     /// The bytes of this vector. It takes no memory.
-    pub fn of(items: Vec<u8>) -> Bytes
+    pub fn of(items: Vec<u8>) -> CertText
         ensures { result ≡ items.items }
     {
-        Bytes { items }
+        CertText { items }
     }
 
     /// Lends the bytes.

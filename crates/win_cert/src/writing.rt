@@ -10,13 +10,13 @@ use super::pushing::{
     push_cells, push_count, push_end, push_name_line, push_number_line, push_numbers,
     push_stones_line, push_vertex,
 };
-use super::{Bytes, Cert, Line, Memory};
+use super::{Cert, CertText, Line, Memory};
 use conn_store::Kind;
 use hex_cells::{Colour, Size};
 use std::alloc::{AllocError, Global};
 
 /// The text of a certificate. It refuses only if memory runs out.
-pub fn write(alloc: Global, cert: &Cert) -> Result<Bytes, Memory>
+pub fn write(alloc: Global, cert: &Cert) -> Result<CertText, Memory>
     requires { IsWritable cert.now }
     ensures { IfOk result (λ text. text ≡ cert_text cert.now) }
 {
@@ -24,7 +24,7 @@ pub fn write(alloc: Global, cert: &Cert) -> Result<Bytes, Memory>
     push_head(alloc, &mut text, cert)?;
     push_lines(alloc, &mut text, cert.lines.as_slice(), cert.board.size())?;
     push_claim(alloc, &mut text, cert)?;
-    Ok(Bytes::of(text))
+    Ok(CertText::of(text))
 }
 
 // The five lines that tell version, size, player and stones.

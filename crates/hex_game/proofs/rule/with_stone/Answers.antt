@@ -1,5 +1,4 @@
-use Rattle.std.proofs.Common.{◌≤◌, ap, ◌∙◌, subst}
-use Rattle.hex_board.specs.Positions.{Apart}
+use Rattle.std.proofs.Common.{ap, ◌∙◌}
 use Rattle.hex_game.specs.Kept.{stones_on}
 use Rattle.hex_game.proofs.Room.{room_for_stone, empty_cell, one_placed}
 use Rattle.hex_game.proofs.rule.with_stone.Goals as goal
@@ -7,15 +6,11 @@ use Rattle.hex_game.proofs.rule.with_stone.Goals as goal
 pub returns-clause-room : goal.returns-clause-room
 returns-clause-room c =
     let now = c.args.now.now in
-    let free = empty_cell now c.args.cell
-    (subst (λ n. n ≤ 11) c.size-size.ensures.value c.size-size.ensures.range.1) c.requires in
-    let apart : Apart now.black now.white
-    = subst (λ s. Apart s now.white) c.stones-stones.ensures.value c.stones-stones.ensures.apart in
-    room_for_stone now.black now.white c.args.cell apart free.1 free.2 free.0
+    let free = empty_cell now c.args.cell c.keeps.ensures.position.most c.requires in
+    room_for_stone now.black now.white c.args.cell c.keeps.ensures.position.apart free.1 free.2 free.0
 
 pub returns-clause-more : goal.returns-clause-more
 returns-clause-more c =
     let now = c.args.now.now in
-    let free = empty_cell now c.args.cell
-    (subst (λ n. n ≤ 11) c.size-size.ensures.value c.size-size.ensures.range.1) c.requires in
+    let free = empty_cell now c.args.cell c.keeps.ensures.position.most c.requires in
     ap stones_on c.place.ensures ∙ one_placed now c.args.colour c.args.cell free.0 free.1 free.2

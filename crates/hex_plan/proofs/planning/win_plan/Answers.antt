@@ -7,7 +7,7 @@ returns c = (
   refl,
   refl,
   record {
-    report = record { elements = refl; report = c.store-store.ensures.report };
+    report = record { elements = refl; report = c.keeps.ensures.report };
     entry = c.requires.entry.0;
     edges = (c.args.number, c.requires.entry.1);
     cut = c.in_ok-cert.ensures.certifies c.requires.entry.0 c.requires.entry.1;

@@ -1,5 +1,4 @@
-use Rattle.std.proofs.Common.{◌∙◌, subst}
-use Rattle.tree_words.specs.Settings.{IsSetting}
+use Rattle.std.proofs.Common.{◌∙◌}
 use Rattle.hex_plan.proofs.Rows.{turn_rows_on}
 use Rattle.hex_plan.proofs.report_texts.tree_text.Goals as goal
 
@@ -7,6 +6,5 @@ use Rattle.hex_plan.proofs.report_texts.tree_text.Goals as goal
 pub push_rows-requires : goal.push_rows-requires
 push_rows-requires c =
     let tree = c.args.closed.now in
-    let set : IsSetting tree.shape
-    = subst IsSetting c.shape.ensures.value c.shape.ensures.setting in
-    turn_rows_on tree.shape tree.words c.args.size c.deref.result.now set c.words-words.ensures.closed c.requires (c.deref.ensures.value ∙ c.in-Ok.ensures.rows)
+    turn_rows_on tree.shape tree.words c.args.size c.deref.result.now c.keeps.ensures.setting c.keeps.ensures.closed c.requires
+    (c.deref.ensures.value ∙ c.in-Ok.ensures.rows)

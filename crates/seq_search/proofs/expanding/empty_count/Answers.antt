@@ -1,7 +1,7 @@
-use Rattle.std.proofs.Common.{◌∙◌, arith}
+use Rattle.std.proofs.Common.{◌∙◌}
 use Rattle.tree_words.proofs.Boards.EmptyLaws.{count_empties}
 use Rattle.seq_search.proofs.expanding.empty_count.Goals as goal
 
 pub returns-clause-value : goal.returns-clause-value
 returns-clause-value c = c.count.ensures.value ∙ count_empties c.empties.result c.args.board.now
-    (omega (arith, c.size-size.ensures.value, c.size-size.ensures.range)) c.empties.ensures
+    c.keeps.ensures.range.1 c.empties.ensures

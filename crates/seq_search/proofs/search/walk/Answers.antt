@@ -29,6 +29,7 @@ returns g c =
     (spot_in c.reach.new.walk) c.play-ending.result.winner c.play-ending.result.full
     (c.play-ending.ensures.winner ∙ (λ i. playout_of c.reach.new.walk.board c.reach.new.walk.player (seed i) (c.from.ensures i)))
     (c.play-ending.ensures.full ∙ (λ i. filled c.reach.new.walk.board c.reach.new.walk.player (seed i) (c.from.ensures i))) in
-    searched-more s c.args.words.now c.reach.new.words c.add.new.words c.args.k c.reach.new.walk c.play-ending.result c.board-board.ensures.setting c.requires.number w r
+    searched-more s c.args.words.now c.reach.new.words c.add.new.words c.args.k c.reach.new.walk c.play-ending.result c.keeps.ensures.setting
+    c.requires.number w r
     played (c.add.ensures.holds r.blocks r.holds r.descended)
     (c.add.ensures.added r.blocks r.holds r.descended) c.add.ensures.record

@@ -19,8 +19,16 @@ overflow_add-size c
 
 pub overflow_add-end : goal.overflow_add-end
 overflow_add-end c =
-    let k = c.board-board.ensures.setting.ranges in
-    omega (arith, few_listed c.size.result c.cells_below-cells.result c.size.ensures.range.1, c.write_block-count.ensures.count, c.requires.long, c.requires.at, k.playouts, k.words)
+    let k = c.keeps.ensures.setting.ranges in
+    omega (
+      arith,
+      few_listed c.size.result c.cells_below-cells.result c.size.ensures.range.1,
+      c.write_block-count.ensures.count,
+      c.requires.long,
+      c.requires.at,
+      k.playouts,
+      k.words,
+    )
 
 pub same_block-requires-clause-few : goal.same_block-requires-clause-few
 same_block-requires-clause-few c
@@ -35,7 +43,8 @@ returns-then-same_block c =
     (block_at c.args.shape.now c.args.board.now c.args.parent c.args.at).cells
     = ap length cells in
     let count = c.write_block-count.ensures.count in
-    let all = stands_is c.args.shape.now c.args.board.now c.args.parent c.args.at c.empties-empties.result (listed c.size.result c.cells_below-cells.result) _ c.write_block-count.new.words c.empties-empties.ensures cells c.write_block-count.ensures.words in (
+    let all = stands_is c.args.shape.now c.args.board.now c.args.parent c.args.at c.empties-empties.result
+    (listed c.size.result c.cells_below-cells.result) _ c.write_block-count.new.words c.empties-empties.ensures cells c.write_block-count.ensures.words in (
       record {
         inside = omega (arith, long, count, c.if-len-end.false, c.len.ensures, c.requires.long);
         claimed = omega (arith, long, count, c.if-at-end.false, c.at.ensures);
@@ -54,5 +63,6 @@ returns-else-same_block c = λ h.
     (block_at c.args.shape.now c.args.board.now c.args.parent c.args.at).cells
     = ap length cells in
     let count = c.write_block-count.ensures.count in
-    let all = stands_not c.args.shape.now c.args.board.now c.args.parent c.args.at c.empties-empties.result (listed c.size.result c.cells_below-cells.result) _ c.write_block-count.new.words c.empties-empties.ensures cells c.write_block-count.ensures.words in
+    let all = stands_not c.args.shape.now c.args.board.now c.args.parent c.args.at c.empties-empties.result
+    (listed c.size.result c.cells_below-cells.result) _ c.write_block-count.new.words c.empties-empties.ensures cells c.write_block-count.ensures.words in
     clash false (c.if-same_block.ensures.1 (λ i l t. all c.args.words.now h.shown i (omega (arith, l, long, count)) t)) refl

@@ -13,13 +13,13 @@ words-init c =
       omega (arith, end),
       omega (arith, end),
       λ bs lk a. subst (AreHanded s bs c.args.words.now c.args.sums.now) end
-          (handed_none s c.args.words.now bs c.board-board.ensures.setting lk.linked c.args.sums.now a),
+          (handed_none s c.args.words.now bs c.keeps.ensures.setting lk.linked c.args.sums.now a),
     )
 
 pub hand_up-requires-clause-sums : goal.hand_up-requires-clause-sums
 hand_up-requires-clause-sums c =
     let s = c.args.shape.now in
-    let h = c.board-board.ensures.setting in
+    let h = c.keeps.ensures.setting in
     let bs : List LinkedBlock = c.requires.sums.0 in
     let lk = c.requires.sums.1 in
     let i = c.words.invariant in
@@ -34,7 +34,7 @@ hand_up-requires-clause-sums c =
 pub words-preserved-then-entry-ne0 : goal.words-preserved-then-entry-ne0
 words-preserved-then-entry-ne0 c =
     let s = c.args.shape.now in
-    let h = c.board-board.ensures.setting in
+    let h = c.keeps.ensures.setting in
     let i = c.words.invariant in
     let at : ℕ = c.words.at - 1 in
     let next : c.words.at ≡ at + 1 = omega (arith, c.words-test.true) in (
@@ -52,7 +52,7 @@ words-preserved-then-entry-ne0 c =
 pub words-preserved : goal.words-preserved
 words-preserved c =
     let s = c.args.shape.now in
-    let h = c.board-board.ensures.setting in
+    let h = c.keeps.ensures.setting in
     let i = c.words.invariant in
     let at : ℕ = c.words.at - 1 in
     let area = c.area-area.ensures in
@@ -73,4 +73,5 @@ returns c = λ bs lk a.
     let i = c.words.invariant in
     let area = c.area-area.ensures in
     let low = i.1 in
-    all_handed c.args.shape.now c.args.words.now bs c.board-board.ensures.setting lk.linked c.words.sums c.words.at (omega (arith, c.words-test.false, area)) (omega (arith, low)) (i.2 bs lk a)
+    all_handed c.args.shape.now c.args.words.now bs c.keeps.ensures.setting lk.linked c.words.sums c.words.at (omega (arith, c.words-test.false, area))
+    (omega (arith, low)) (i.2 bs lk a)

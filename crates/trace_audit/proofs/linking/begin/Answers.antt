@@ -7,7 +7,7 @@ use Rattle.trace_audit.proofs.linking.begin.Goals as goal
 pub enter-requires : goal.enter-requires
 enter-requires c =
     let s = c.args.shape.now in
-    let h = c.board-board.ensures.setting in
+    let h = c.keeps.ensures.setting in
     let root : c.root-root.result ≡ root_at s = c.root-root.ensures in (
       s,
       [],
@@ -23,7 +23,7 @@ enter-requires c =
 pub returns-then-branch : goal.returns-then-branch
 returns-then-branch c =
     let s = c.args.shape.now in
-    let h = c.board-board.ensures.setting in
+    let h = c.keeps.ensures.setting in
     let at : ℕ = c.root-root.result in
     let root : at ≡ root_at s = c.root-root.ensures in
     first_done s c.args.words.now h at root c.enter.new.table
@@ -38,7 +38,7 @@ returns-then-branch c =
 pub returns-else-branch : goal.returns-else-branch
 returns-else-branch c =
     let s = c.args.shape.now in
-    let h = c.board-board.ensures.setting in
+    let h = c.keeps.ensures.setting in
     let at : ℕ = c.root-root.result in
     let root : at ≡ root_at s = c.root-root.ensures in
     if_no c.in_ok-enter.field-0 _ _ (c.in_ok-enter.ensures s [] (

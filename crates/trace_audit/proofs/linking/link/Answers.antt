@@ -7,8 +7,14 @@ pub words-preserved-then-entry-eq0 : goal.words-preserved-then-entry-eq0
 words-preserved-then-entry-eq0 c =
     let i = c.words.invariant.1 in
     let long = i.1.table.long in
-    let none = c.entry.ensures in
-    (omega (arith, c.words-test.true, c.requires), (i.0, skip c.args.shape.now c.args.words.now c.board-board.ensures.setting c.words.table c.words.at i.0 i.1 (sym none ∙ c.if-entry-eq0.true)))
+    let none = c.entry.ensures in (
+      omega (arith, c.words-test.true, c.requires),
+      (
+        i.0,
+        skip c.args.shape.now c.args.words.now c.keeps.ensures.setting c.words.table c.words.at i.0 i.1
+            (sym none ∙ c.if-entry-eq0.true),
+      ),
+    )
 
 pub words-preserved : goal.words-preserved
 words-preserved c =

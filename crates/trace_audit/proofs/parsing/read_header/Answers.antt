@@ -19,4 +19,5 @@ returns-in_default-count_in c
 
 pub returns : goal.returns
 returns c =
-    front_read c.args.bytes.now c.in-Some.fields c.in-Some-shape_of.shape c.in-Some-count_in.count c.board-board.ensures.setting c.in-Some.ensures c.in-Some-shape_of.ensures c.in-Some-count_in.ensures.0 c.in-Some-count_in.ensures.1
+    front_read c.args.bytes.now c.in-Some.fields c.in-Some-shape_of.shape c.in-Some-count_in.count c.keeps.ensures.setting c.in-Some.ensures
+    c.in-Some-shape_of.ensures c.in-Some-count_in.ensures.0 c.in-Some-count_in.ensures.1

@@ -15,12 +15,12 @@ use Rattle.trace_audit.proofs.recording.add.Goals as goal
 pub returns-in_default : goal.returns-in_default
 returns-in_default c = λ bs lk a. no_record c.args.shape.now bs c.args.words.now c.args.k _
     (ap (λ (w : ℕ). w / 2) (sym c.at-word.ensures))
-    (c.in_default.ensures c.args.shape.now bs (c.board-board.ensures.setting, c.requires.long, lk))
+    (c.in_default.ensures c.args.shape.now bs (c.keeps.ensures.setting, c.requires.long, lk))
 
 pub gain_leaf-requires-clause-within : goal.gain_leaf-requires-clause-within
 gain_leaf-requires-clause-within c =
     let s = c.args.shape.now in
-    let h = c.board-board.ensures.setting in
+    let h = c.keeps.ensures.setting in
     let bs : List LinkedBlock = c.requires.sums.0 in
     let lk = c.requires.sums.1 in
     let a = c.requires.sums.2 in
@@ -31,7 +31,7 @@ gain_leaf-requires-clause-within c =
 pub gain_leaf-requires-clause-cells : goal.gain_leaf-requires-clause-cells
 gain_leaf-requires-clause-cells c =
     let s = c.args.shape.now in
-    let h = c.board-board.ensures.setting in
+    let h = c.keeps.ensures.setting in
     let bs : List LinkedBlock = c.requires.sums.0 in
     let lk = c.requires.sums.1 in
     let a = c.requires.sums.2 in
@@ -41,7 +41,7 @@ gain_leaf-requires-clause-cells c =
 pub gain_leaf-requires-clause-node : goal.gain_leaf-requires-clause-node
 gain_leaf-requires-clause-node c =
     let s = c.args.shape.now in
-    let h = c.board-board.ensures.setting in
+    let h = c.keeps.ensures.setting in
     let bs : List LinkedBlock = c.requires.sums.0 in
     let lk = c.requires.sums.1 in
     let a = c.requires.sums.2 in
@@ -52,7 +52,7 @@ gain_leaf-requires-clause-node c =
 pub gain_leaf-requires-clause-small : goal.gain_leaf-requires-clause-small
 gain_leaf-requires-clause-small c =
     let s = c.args.shape.now in
-    let h = c.board-board.ensures.setting in
+    let h = c.keeps.ensures.setting in
     let bs : List LinkedBlock = c.requires.sums.0 in
     let lk = c.requires.sums.1 in
     let a = c.requires.sums.2 in
@@ -63,7 +63,7 @@ gain_leaf-requires-clause-small c =
 pub gain_leaf-requires-clause-tally : goal.gain_leaf-requires-clause-tally
 gain_leaf-requires-clause-tally c =
     let s = c.args.shape.now in
-    let h = c.board-board.ensures.setting in
+    let h = c.keeps.ensures.setting in
     let bs : List LinkedBlock = c.requires.sums.0 in
     let lk = c.requires.sums.1 in
     let a = c.requires.sums.2 in
@@ -74,7 +74,7 @@ gain_leaf-requires-clause-tally c =
 pub gain_leaf-requires-clause-total : goal.gain_leaf-requires-clause-total
 gain_leaf-requires-clause-total c =
     let s = c.args.shape.now in
-    let h = c.board-board.ensures.setting in
+    let h = c.keeps.ensures.setting in
     let bs : List LinkedBlock = c.requires.sums.0 in
     let lk = c.requires.sums.1 in
     let a = c.requires.sums.2 in
@@ -85,7 +85,7 @@ gain_leaf-requires-clause-total c =
 pub gain_leaf-requires-clause-leaves : goal.gain_leaf-requires-clause-leaves
 gain_leaf-requires-clause-leaves c =
     let s = c.args.shape.now in
-    let h = c.board-board.ensures.setting in
+    let h = c.keeps.ensures.setting in
     let bs : List LinkedBlock = c.requires.sums.0 in
     let lk = c.requires.sums.1 in
     let a = c.requires.sums.2 in
@@ -95,24 +95,28 @@ gain_leaf-requires-clause-leaves c =
 pub returns-then-not-is_winner : goal.returns-then-not-is_winner
 returns-then-not-is_winner c = λ bs lk a.
     let s = c.args.shape.now in
-    let h = c.board-board.ensures.setting in
+    let h = c.keeps.ensures.setting in
     let f = c.in-Some.ensures s bs (h, c.requires.long, lk) in
     let state = c.site_of-site.ensures s bs (h, c.requires.long, lk) f in
     wrong_record s bs c.args.words.now c.args.k h lk.linked _
-    (ap (λ (w : ℕ). w / 2) (sym c.at-word.ensures)) f.0 f.1 f.3 c.site_of-site.result state c.ending_of-ending.result _ _ (ap (λ k. k.seed) c.knobs.ensures.value) c.from.ensures c.ending_of-ending.ensures.full c.ending_of-ending.ensures.winner
+    (ap (λ (w : ℕ). w / 2) (sym c.at-word.ensures)) f.0 f.1 f.3 c.site_of-site.result state c.ending_of-ending.result _ _
+    (ap (λ k. k.seed) c.knobs.ensures.value) c.from.ensures c.ending_of-ending.ensures.full c.ending_of-ending.ensures.winner
     (λ z. if_no c.is_winner.result _ _ c.is_winner.ensures c.if-not-is_winner.true (z ∙ ap winner_in (sym c.at-word.ensures)))
 
 pub returns : goal.returns
 returns c = λ bs lk a.
     let s = c.args.shape.now in
-    let h = c.board-board.ensures.setting in
+    let h = c.keeps.ensures.setting in
     let f = c.in-Some.ensures s bs (h, c.requires.long, lk) in
     let state = c.site_of-site.ensures s bs (h, c.requires.long, lk) f in (
       right_record s bs c.args.words.now c.args.k h lk.linked _
-          (ap (λ (w : ℕ). w / 2) (sym c.at-word.ensures)) f.0 f.1 f.3 c.site_of-site.result state c.ending_of-ending.result _ _ (ap (λ k. k.seed) c.knobs.ensures.value) c.from.ensures c.ending_of-ending.ensures.full c.ending_of-ending.ensures.winner
+          (ap (λ (w : ℕ). w / 2) (sym c.at-word.ensures)) f.0 f.1 f.3 c.site_of-site.result state c.ending_of-ending.result _ _
+          (ap (λ k. k.seed) c.knobs.ensures.value) c.from.ensures c.ending_of-ending.ensures.full c.ending_of-ending.ensures.winner
           (if_yes c.is_winner.result _ _ c.is_winner.ensures c.if-not-is_winner.false ∙ ap winner_in c.at-word.ensures),
       playout_added s bs c.args.words.now c.args.k h lk.linked _
-          (ap (λ (w : ℕ). w / 2) (sym c.at-word.ensures)) f.0 f.1 f.3 c.site_of-site.result state c.ending_of-ending.result _ _ (ap (λ k. k.seed) c.knobs.ensures.value) c.from.ensures c.ending_of-ending.ensures.full c.ending_of-ending.ensures.winner
+          (ap (λ (w : ℕ). w / 2) (sym c.at-word.ensures)) f.0 f.1 f.3 c.site_of-site.result state c.ending_of-ending.result _ _
+          (ap (λ k. k.seed) c.knobs.ensures.value) c.from.ensures c.ending_of-ending.ensures.full c.ending_of-ending.ensures.winner
           c.args.sums.now c.gain_leaf.new.sums c.other.result a c.requires.number c.other.ensures c.ending_of-ending.ensures.filled
-          (subst (λ (q : ℕ). GainsLeaf c.args.words.now q (c.at-word.result / 2) (amount_of (is_same c.ending_of-ending.result.winner c.other.result)) (stones_of c.ending_of-ending.result.full c.other.result) c.args.sums.now c.gain_leaf.new.sums) (sym f.2) c.gain_leaf.ensures),
+          (subst (λ (q : ℕ). GainsLeaf c.args.words.now q (c.at-word.result / 2) (amount_of (is_same c.ending_of-ending.result.winner c.other.result))
+          (stones_of c.ending_of-ending.result.full c.other.result) c.args.sums.now c.gain_leaf.new.sums) (sym f.2) c.gain_leaf.ensures),
     )

@@ -17,7 +17,7 @@ with_stones-self-inside-requires c k t =
     (sym (put_reasons now c.in-Put.cells) ∙ ap (λ l. reason_against now (Derivation l)) (sym c.in-Put.is) ∙ c.requires.0) in
     ap (λ n. is_empty_at n.base.board k) c.self.view_is
     ∙ none_in now.base.board c.in-Put.cells k
-    (small_set c.in-Put.cells c.bits-bits.result c.bits-bits.ensures.value c.bits-bits.ensures.range k) clear t
+    (small_set c.in-Put.cells c.keeps.ensures.range k) clear t
 
 pub invariant_of-self-in-Put : goal.invariant_of-self-in-Put
 invariant_of-self-in-Put c =

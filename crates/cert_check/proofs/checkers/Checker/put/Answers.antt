@@ -11,7 +11,7 @@ returns-then-inside c =
     (λ k. c.empties.ensures k ∙ ap (λ n. is_empty_at n.base.board k) c.self.view_is) c.inside.ensures in
     put_reasons now c.args.cells
     ∙ told_next _ _ _ _
-    (bad_stone_is now.base.board c.args.cells c.inside.result (small_set c.args.cells c.bits-bits.result c.bits-bits.ensures.value c.bits-bits.ensures.range) h ∙ ap not c.if-inside.true) refl
+    (bad_stone_is now.base.board c.args.cells c.inside.result (small_set c.args.cells c.keeps.ensures.range) h ∙ ap not c.if-inside.true) refl
 
 pub returns-else-inside : goal.returns-else-inside
 returns-else-inside c =
@@ -20,4 +20,4 @@ returns-else-inside c =
     (λ k. c.empties.ensures k ∙ ap (λ n. is_empty_at n.base.board k) c.self.view_is) c.inside.ensures in
     put_reasons now c.args.cells
     ∙ told_first _ _ _
-    (bad_stone_is now.base.board c.args.cells c.inside.result (small_set c.args.cells c.bits-bits.result c.bits-bits.ensures.value c.bits-bits.ensures.range) h ∙ ap not c.if-inside.false)
+    (bad_stone_is now.base.board c.args.cells c.inside.result (small_set c.args.cells c.keeps.ensures.range) h ∙ ap not c.if-inside.false)

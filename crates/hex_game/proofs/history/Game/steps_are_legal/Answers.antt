@@ -1,6 +1,5 @@
 use Rattle.std.proofs.Common.{◌+◌, ◌≤◌, [], length, subst, arith}
 use Rattle.hex_cells.specs.Sets.{members}
-use Rattle.hex_board.specs.Positions.{Apart}
 use Rattle.hex_game.specs.Games.{GameData, AreLegal}
 use Rattle.hex_game.specs.Kept.{IsFew}
 use Rattle.hex_game.proofs.Chains.{legal_steps, few_on}
@@ -17,8 +16,6 @@ returns-clause-few c =
     let now = c.self.inside.board in
     let few : IsFew c.self.inside.steps.items now
     = few_on c.self.inside.start [] c.self.inside.start _ _ now c.self.invariant.0 in
-    let apart : Apart now.black now.white
-    = subst (λ s. Apart s now.white) c.stones-stones.ensures.value c.stones-stones.ensures.apart in
     let stones : members now.black 121 + members now.white 121 ≤ 121
-    = members_two now.black now.white 121 apart in
+    = members_two now.black now.white 121 c.keeps.ensures.position.apart in
     subst (λ (g : GameData). length g.steps ≤ 122) c.self.view_is (omega arith)

@@ -9,4 +9,4 @@ returns-clause-underway c =
     let s = c.args.shape.now in
     let walkers = c.in_ok-walkers.walkers.items in
     subst (λ (words : List ℕ). AreSimulated s words walkers) (sym c.in_ok-words.ensures)
-    (begins-simulated s c.board-board.ensures.setting walkers c.in_ok-walkers.ensures)
+    (begins-simulated s c.keeps.ensures.setting walkers c.in_ok-walkers.ensures)

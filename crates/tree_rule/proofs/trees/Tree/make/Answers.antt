@@ -18,11 +18,11 @@ of_words-requires c =
     let s = c.args.shape.now in
     subst (λ (words : List ℕ). OwingRule s words (debtless (opening_view s) ∷ []))
     (sym (c.as_slice.ensures.value ∙ c.in_ok-room.ensures))
-    (owing-begins s (opening_words s) (opening_view s) (begins s c.board-board.ensures.setting))
+    (owing-begins s (opening_words s) (opening_view s) (begins s c.keeps.ensures.setting))
 
 pub invariant_of-tree : goal.invariant_of-tree
 invariant_of-tree c =
-    let set = c.board-board.ensures.setting in (
+    let set = c.keeps.ensures.setting in (
       c.in-Ok.ensures.5,
       record {
         setting = subst IsSetting (sym c.in-Ok.ensures.5) set;
@@ -35,7 +35,7 @@ invariant_of-tree c =
 
 pub invariant_of-result : goal.invariant_of-result
 invariant_of-result c =
-    let set = c.board-board.ensures.setting in
+    let set = c.keeps.ensures.setting in
     let me = c.in-Ok.ensures.4 in
     record {
       table = refl;
@@ -55,4 +55,4 @@ returns-clause-rule c =
     let me = c.in-Ok.ensures.4 in
     subst (λ (v : SeatView). OwingRule s (opening_words s) (debtless v ∷ []))
     (sym (ap (λ (m : Me ℕ Debtor). m.0.view) me))
-    (owing-begins s (opening_words s) (opening_view s) (begins s c.board-board.ensures.setting))
+    (owing-begins s (opening_words s) (opening_view s) (begins s c.keeps.ensures.setting))

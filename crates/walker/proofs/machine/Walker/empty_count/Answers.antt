@@ -1,9 +1,8 @@
 -- The set of the empty cells has as many members as there are empty cells.
-use Rattle.std.proofs.Common.{◌∙◌, arith}
+use Rattle.std.proofs.Common.{◌∙◌}
 use Rattle.tree_words.proofs.Boards.EmptyLaws.{count_empties}
 use Rattle.walker.proofs.machine.Walker.empty_count.Goals as goal
 
 pub returns-clause-value : goal.returns-clause-value
 returns-clause-value c = c.count.ensures.value
-    ∙ count_empties c.empties.result c.args.self.now.board
-    (omega (arith, c.size-size.ensures.value, c.size-size.ensures.range)) c.empties.ensures
+    ∙ count_empties c.empties.result c.args.self.now.board c.keeps.ensures.range.1 c.empties.ensures

@@ -17,7 +17,7 @@ returns-in-Writing c =
         at = omega (arith, at, place, c.saturating_sub-written.ensures, c.if-written.true);
         cells = ap (λ (d : NewNodesData). d.cells) is
             ∙ by-number-empties c.empties.result c.args.self.now.board
-            (omega (arith, c.size-size.ensures.value, c.size-size.ensures.range)) c.empties.ensures
+            c.keeps.ensures.range.1 c.empties.ensures
             ∙ sym (ap (λ (n : ℕ). drop n (empties_of c.args.self.now.board)) place);
       },
     )

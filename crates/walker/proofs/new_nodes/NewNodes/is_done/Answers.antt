@@ -9,5 +9,5 @@ returns c =
     let cells = ap (λ (d : NewNodesData). d.cells) c.self.view_is in (
       λ t. sym cells ∙ by-number-none c.self.inside.left (c.is_empty.ensures.0 t),
       λ e. c.is_empty.ensures.1
-          (by-number-empty c.self.inside.left (c.bits-bits.result) c.bits-bits.ensures.value c.bits-bits.ensures.range (cells ∙ e)),
+          (by-number-empty c.self.inside.left c.keeps.ensures.range (cells ∙ e)),
     )
