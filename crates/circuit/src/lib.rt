@@ -3,10 +3,12 @@
 //! **Nouns.** A *circuit* is made of a player's report: a node for each of his elements, and a
 //! *wire* for each pair with a full entry, of a *conductance* that is greater the surer and shorter
 //! it is. A voltage stands between his two edges. The circuit's *total* is the conductance between
-//! them, and the *flow* of an empty cell the current through it.
+//! them, and the *flow* of an empty cell the current through it. A [`Mesh`] has the wires, whatever
+//! they are made of, and finds the total and the flow of each element.
 //!
 //! **A caller** makes a [`Circuit`] once, loads it with a store again and again
-//! ([`Circuit::load`]), and reads [`Circuit::total`] and [`Circuit::part`].
+//! ([`Circuit::load`]), and reads [`Circuit::total`] and [`Circuit::part`]. One who has wires of
+//! his own puts them in a mesh ([`Mesh::wires`]) and has it solved ([`Mesh::solve`]).
 //!
 //! **What is proved.** That each call is safe and ends; a total is at least 1, and a part at most
 //! [`MOST_PART`]. So a caller may divide by it and multiply it.
@@ -14,7 +16,7 @@
 //! **What is only tested, or not said.** That the total and the parts are those of the circuit, up
 //! to what is rounded. Whoever searches by them has to choose well by any numbers whatever.
 //!
-//! **Limits.** 123 elements. Only [`Circuit::make`] takes memory.
+//! **Limits.** 123 elements. Only [`Circuit::make`] and [`Mesh::make`] take memory.
 //!
 //! Source: Anshelevich's evaluation of Hex positions by electrical resistance, here over virtual
 //! connections.
@@ -31,6 +33,8 @@
 #![tactic(auto)]
 
 mod circuits;
+mod meshes;
 mod wires;
 
 pub use circuits::{Circuit, MOST_PART};
+pub use meshes::Mesh;

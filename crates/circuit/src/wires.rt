@@ -1,10 +1,8 @@
 //! The wires of a circuit, one for each pair of elements with a full entry.
 
+use super::meshes::Mesh;
 use conn_store::{Entry, Kind, Store};
 use hex_board::{Elements, MOST_ELEMENTS};
-
-/// A number for each element before the one whose row it is.
-pub(crate) type Row = [u32; MOST_ELEMENTS];
 
 // The conductance between two empty cells that lie side by side. Those between a cell and a group
 // are twice as great; two groups are never near.
@@ -18,15 +16,12 @@ const GROUPS: u32 = 10_485_760;
 
 /// Puts a wire for each pair with a full entry, in the row of the greater element, and takes all
 /// other wires away.
-pub(crate) fn put_wires(store: &Store, wires: &mut [Row]) {
-    for row in wires.iter_mut() {
-        *row = [0; MOST_ELEMENTS];
-    }
-    let mut groups = [false; MOST_ELEMENTS];
-    mark_groups(store.elements(), &mut groups);
+pub(crate) fn put_wires(store: &Store, mesh: &mut Mesh) {
+    mesh.clear();
+    let groups = groups_of(store.elements());
     for entry in store.entries() {
         if entry.kind == Kind::Full
-            && let Some(row) = wires.get_mut(entry.y as usize)
+            && let Some(row) = mesh.wires(entry.y as usize)
             && let Some(wire) = row.get_mut(entry.x as usize)
         {
             *wire = (*wire).max(conductance(entry, &groups));
@@ -34,13 +29,13 @@ pub(crate) fn put_wires(store: &Store, wires: &mut [Row]) {
     }
 }
 
-// Marks each element that is a group: a block of stones, or an edge.
-fn mark_groups(elements: &Elements, groups: &mut [bool]) {
+// Of each element whether it is a group: a block of stones, or an edge.
+fn groups_of(elements: &Elements) -> [bool; MOST_ELEMENTS] {
+    let mut groups = [false; MOST_ELEMENTS];
     for x in 0..elements.count() {
-        if let Some(mark) = groups.get_mut(x as usize) {
-            *mark = elements.cell(x as u8).is_none();
-        }
+        groups[x as usize] = elements.cell(x as u8).is_none();
     }
+    groups
 }
 
 // The conductance of a full entry.

@@ -67,18 +67,14 @@ impl Elements {
 
     /// The cells of an element; none past the last.
     pub(crate) fn cells(&self, element: usize) -> CellSet {
-        match self.cells.get(element) {
-            Some(cells) => *cells,
-            None => CellSet::none(),
-        }
+        let cells = self.cells.get(element).copied();
+        cells.unwrap_or(CellSet::none())
     }
 
     /// The empty cell that an element is, as a set; none if it is a group.
     pub(crate) fn alone(&self, element: usize) -> CellSet {
-        match self.alone.get(element) {
-            Some(cells) => *cells,
-            None => CellSet::none(),
-        }
+        let cell = self.alone.get(element).copied();
+        cell.unwrap_or(CellSet::none())
     }
 
     /// What names an element at the end of a connection.

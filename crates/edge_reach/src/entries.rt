@@ -97,22 +97,13 @@ pub enum End {
     Second,
 }
 
-/// The premises of a cause that has at most three.
-#[derive(Clone, Copy, Debug, PartialEq, Eq)]
-pub(crate) struct Premises {
-    pub numbers: [Option<u32>; 3],
-}
-
 impl Cause {
     /// The numbers of its premises; none of four or more, which the report's list has.
-    pub(crate) fn premises(self) -> Premises {
-        let numbers = match self {
+    pub(crate) fn premises(self) -> [Option<u32>; 3] {
+        match self {
             Cause::Adjacent | Cause::OrMany(_, _) => [None, None, None],
-            Cause::And(i, j) => [Some(i), Some(j), None],
-            Cause::Key(i, j) => [Some(i), Some(j), None],
-            Cause::Or2(i, j) => [Some(i), Some(j), None],
+            Cause::And(i, j) | Cause::Key(i, j) | Cause::Or2(i, j) => [Some(i), Some(j), None],
             Cause::Or3(i, j, k) => [Some(i), Some(j), Some(k)],
-        };
-        Premises { numbers }
+        }
     }
 }

@@ -56,8 +56,8 @@ impl Found {
         let elements = size.cells() as usize + 2;
         let pairs = elements * (elements - 1) / 2;
         let queue = Queue::make(alloc)?;
-        let fulls = Held::make(alloc, pairs, MOST_FULL)?;
-        let semis = Held::make(alloc, pairs, MOST_SEMI)?;
+        let fulls = Held::make(alloc, pairs, limits.full.min(MOST_FULL))?;
+        let semis = Held::make(alloc, pairs, limits.semi.min(MOST_SEMI))?;
         Ok(Found {
             limits,
             entries: Vec::new(alloc),
@@ -181,46 +181,30 @@ impl Found {
         let (pair, carrier) = (pair_of(entry.x, entry.y), entry.carrier);
         if let Some(narrower) = self.fulls.first_inside(pair, carrier) {
             self.shorten(narrower, entry);
-            return Ok(());
-        }
-        self.fulls.give_up_around(pair, carrier, &mut self.entries);
-        if !self
-            .fulls
-            .makes_room(pair, self.limits.full, carrier, &mut self.entries)
+        } else if let Ok(number) = u32::try_from(self.entries.len())
+            && self.fulls.makes_room(pair, carrier, &mut self.entries)
         {
-            return Ok(());
+            self.fulls.push(pair, carrier, number);
+            if entry.is_between_edges() {
+                self.edge_full.push(number)?;
+            }
+            self.enlist(entry, number)?;
         }
-        let Ok(number) = u32::try_from(self.entries.len()) else {
-            return Ok(());
-        };
-        self.fulls.push(pair, carrier, number);
-        if entry.is_between_edges() {
-            self.edge_full.push(number)?;
-        }
-        self.enlist(entry, number)
+        Ok(())
     }
 
     fn add_semi(&mut self, entry: Entry) -> Result<(), AllocError> {
         let (pair, carrier) = (pair_of(entry.x, entry.y), entry.carrier);
         if let Some(narrower) = self.semis.first_inside(pair, carrier) {
             self.shorten(narrower, entry);
-            return Ok(());
-        }
-        if self.fulls.first_inside(pair, carrier).is_some() {
-            return Ok(());
-        }
-        self.semis.give_up_around(pair, carrier, &mut self.entries);
-        if !self
-            .semis
-            .makes_room(pair, self.limits.semi, carrier, &mut self.entries)
+        } else if self.fulls.first_inside(pair, carrier).is_none()
+            && let Ok(number) = u32::try_from(self.entries.len())
+            && self.semis.makes_room(pair, carrier, &mut self.entries)
         {
-            return Ok(());
+            self.semis.push(pair, carrier, number);
+            self.enlist(entry, number)?;
         }
-        let Ok(number) = u32::try_from(self.entries.len()) else {
-            return Ok(());
-        };
-        self.semis.push(pair, carrier, number);
-        self.enlist(entry, number)
+        Ok(())
     }
 
     fn add_edge_semi(&mut self, entry: Entry) -> Result<(), AllocError> {
@@ -230,15 +214,15 @@ impl Found {
             return Ok(());
         }
         give_up_around(&mut self.edge_semi, &mut self.entries, carrier);
-        if self.limits.edge_semi <= self.edge_semi.len() && self.common.inside(carrier) {
-            return Ok(());
+        let has_room = self.edge_semi.len() < self.limits.edge_semi;
+        if let Ok(number) = u32::try_from(self.entries.len())
+            && (has_room || !self.common.inside(carrier))
+        {
+            self.edge_semi.push(number)?;
+            self.common = self.common.meet(carrier);
+            self.enlist(entry, number)?;
         }
-        let Ok(number) = u32::try_from(self.entries.len()) else {
-            return Ok(());
-        };
-        self.edge_semi.push(number)?;
-        self.common = self.common.meet(carrier);
-        self.enlist(entry, number)
+        Ok(())
     }
 
     // Puts a new entry behind the others, to wait.
@@ -256,10 +240,8 @@ impl Found {
     // The lines of a derivation by this cause.
     fn lines_by(&self, cause: Cause) -> u32 {
         let mut lines = self.lines_of(self.many(cause));
-        for premise in cause.premises().numbers {
-            if let Some(number) = premise {
-                lines = lines.saturating_add(self.lines_of(&[number]));
-            }
+        for number in cause.premises().into_iter().flatten() {
+            lines = lines.saturating_add(self.lines_of(&[number]));
         }
         lines.saturating_add(1).min(MOST_LINES)
     }
@@ -292,30 +274,20 @@ impl Found {
 
 // The first of these entries whose carrier lies inside this one.
 fn first_inside(numbers: &[u32], entries: &[Entry], carrier: CellSet) -> Option<(CellSet, u32)> {
-    for number in numbers {
-        if let Some(entry) = entries.get(*number as usize)
-            && entry.carrier.inside(carrier)
-        {
-            return Some((entry.carrier, *number));
-        }
-    }
-    None
+    numbers.iter().find_map(|number| {
+        let there = entries.get(*number as usize)?.carrier;
+        there.inside(carrier).then_some((there, *number))
+    })
 }
 
 // Gives up those of these entries that lie around the carrier.
 fn give_up_around(numbers: &mut Vec<u32>, entries: &mut [Entry], carrier: CellSet) {
-    let mut kept = 0usize;
-    for place in 0..numbers.len() {
-        if let Some(number) = numbers.get(place).copied()
-            && let Some(entry) = entries.get(number as usize)
-        {
-            if carrier.inside(entry.carrier) {
-                give_up(entries, number);
-            } else if let Some(there) = numbers.get_mut(kept) {
-                *there = number;
-                kept = kept.saturating_add(1);
-            }
+    numbers.retain(|number| {
+        let entry = entries.get(*number as usize);
+        let is_around = entry.is_some_and(|entry| carrier.inside(entry.carrier));
+        if is_around {
+            give_up(entries, *number);
         }
-    }
-    numbers.truncate(kept);
+        !is_around
+    });
 }

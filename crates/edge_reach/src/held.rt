@@ -45,10 +45,7 @@ impl Held {
     /// How many a pair has.
     #[inline(always)]
     pub(crate) fn count(&self, pair: usize) -> usize {
-        match self.counts.get(pair) {
-            Some(count) => usize::from(*count),
-            None => 0,
-        }
+        usize::from(self.counts.get(pair).copied().unwrap_or(0))
     }
 
     /// The carrier and the number of a pair's entry at a place below the count.
@@ -77,8 +74,8 @@ impl Held {
         None
     }
 
-    /// Gives up the entries of a pair around this carrier.
-    pub(crate) fn give_up_around(&mut self, pair: usize, carrier: CellSet, entries: &mut [Entry]) {
+    // Gives up the entries of a pair around this carrier.
+    fn give_up_around(&mut self, pair: usize, carrier: CellSet, entries: &mut [Entry]) {
         let count = self.count(pair);
         let mut kept = 0usize;
         for place in 0..count {
@@ -96,17 +93,17 @@ impl Held {
         }
     }
 
-    /// Whether there is room for an entry of a pair with this carrier beside fewer than `limit`: a
-    /// wider one is given up for it.
+    /// Gives up the entries of a pair around this carrier: whether there is a place then for an
+    /// entry with it. If need be, a wider one is given up for that.
     pub(crate) fn makes_room(
         &mut self,
         pair: usize,
-        limit: usize,
         carrier: CellSet,
         entries: &mut [Entry],
     ) -> bool {
+        self.give_up_around(pair, carrier, entries);
         let count = self.count(pair);
-        if count < limit {
+        if count < self.most {
             return true;
         }
         let Some((widest, number)) = self.widest(pair, carrier.count()) else {

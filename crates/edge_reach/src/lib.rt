@@ -7,7 +7,7 @@
 //!
 //! **A caller** makes a [`Reach`] once, asks it one question after another ([`Reach::report`]),
 //! and reads what it found: [`Reach::between_edges`], [`Reach::entry`], [`Reach::derivation`], and
-//! the [`currents`].
+//! the currents ([`Reach::currents`]).
 //!
 //! **What is proved.** That each call is safe and ends, and what the calls that read a report
 //! answer of what it has (specs/Reports.antt): [`Reach::entry`] the entry with this number,
@@ -32,10 +32,6 @@
 //! - Of semi entries that have no cell in common two and three are tried in each way, but of more
 //!   one choice alone, by greed: a third of the positions are left to enter, at about the same time
 //!   for each.
-//! - Elements are taken out of a circuit from the last one down, each by the star-mesh rule: an
-//!   element with wires a, b, .. of the sum G gives way to a wire of a·b/G between each two of its
-//!   neighbours. What is left in its row are the shares a/G, from which potentials follow upwards.
-//!   In whole numbers the result is the same on every machine.
 //!
 //! Source: H-search (V. Anshelevich); the electrical circuit over virtual connections is his, too.
 #![tactic(auto)]
@@ -49,7 +45,7 @@ mod queues;
 mod reports;
 mod walks;
 
-pub use circuits::{Circuit, FLOW};
+pub use circuits::FLOW;
 pub use elements::{Cells, cells_of};
 pub use entries::{Cause, End, Entry, MOST_UNITED};
 pub use found::Limits;

@@ -5,14 +5,15 @@ ghost use Rattle.std.specs.List.{slice_get};
 ghost use Rattle.edge_reach.specs.Reports.{report_entries, report_numbers};
 ghost use Rattle.edge_reach.specs.declared.entries.End.{End};
 
-use super::circuits::Circuit;
+use super::circuits::currents_of;
 use super::elements::Elements;
 use super::entries::{Cause, End, Entry, MOST_UNITED};
 use super::found::{Found, Limits};
 use super::walks::Walk;
+use circuit::Mesh;
 use conn_store::Kind;
 use hex_board::MOST_ELEMENTS;
-use hex_cells::{CellSet, Colour, Size};
+use hex_cells::{CellSet, Colour, MOST_CELLS, Size};
 use std::alloc::{AllocError, Global};
 
 /// What a report is about: a player with these stones on a board where the cells of the region are
@@ -115,9 +116,10 @@ impl Reach {
         self.elements.end(element)
     }
 
-    /// Makes a circuit that of this report.
-    pub fn load_circuit(&self, circuit: &mut Circuit) {
-        circuit.load(&self.elements, &self.found);
+    /// The current through each empty cell by the full entries, of which that between the edges is
+    /// [`FLOW`](super::FLOW); 0 of other cells. The mesh is room for its circuit.
+    pub fn currents(&self, mesh: &mut Mesh) -> [u64; MOST_CELLS as usize] {
+        currents_of(&self.elements, &self.found, mesh)
     }
 
     /// Makes the report that answers the question.
@@ -177,26 +179,22 @@ impl Reach {
             Kind::Full => {
                 self.join(number, entry, entry.y, entry.x)?;
                 self.join(number, entry, entry.x, entry.y)?;
-                self.add_way(entry.x, entry.y, entry.carrier, number)?;
-                self.add_way(entry.y, entry.x, entry.carrier, number)
+                self.add_ways(number, entry)
             }
         }
     }
 
-    // Says that a full entry leads from one element to another.
-    fn add_way(
-        &mut self,
-        from: u8,
-        to: u8,
-        carrier: CellSet,
-        number: u32,
-    ) -> Result<(), AllocError> {
-        if let Some(ways) = self.ways.get_mut(from as usize) {
-            ways.push(Way {
-                carrier,
-                number,
-                to,
-            })?;
+    // Says that a full entry leads from each of its elements to the other.
+    fn add_ways(&mut self, number: u32, entry: &Entry) -> Result<(), AllocError> {
+        let carrier = entry.carrier;
+        for (from, to) in [(entry.x, entry.y), (entry.y, entry.x)] {
+            if let Some(ways) = self.ways.get_mut(from as usize) {
+                ways.push(Way {
+                    carrier,
+                    number,
+                    to,
+                })?;
+            }
         }
         Ok(())
     }
@@ -240,21 +238,18 @@ impl Reach {
     // The rule of OR with one or two others.
     fn unite_few(&mut self, number: u32, entry: &Entry) -> Result<(), AllocError> {
         let (x, y) = (entry.x, entry.y);
-        for place in 0..self.others.len() {
-            let Some((carrier, second)) = self.others.get(place).copied() else {
-                return Ok(());
-            };
-            let common = entry.carrier.meet(carrier);
-            let both = entry.carrier.union(carrier);
+        for (place, (carrier, second)) in self.others.iter().enumerate() {
+            let common = entry.carrier.meet(*carrier);
+            let both = entry.carrier.union(*carrier);
             if common.is_empty() {
-                let cause = Cause::Or2(number, second);
+                let cause = Cause::Or2(number, *second);
                 let united = Entry::of(Kind::Full, x, y, both, cause);
                 self.found.add(united)?;
                 continue;
             }
-            for (carrier, third) in &self.others[..place] {
+            for (carrier, third) in self.others.iter().take(place) {
                 if !common.meets(*carrier) {
-                    let cause = Cause::Or3(number, second, *third);
+                    let cause = Cause::Or3(number, *second, *third);
                     let united = Entry::of(Kind::Full, x, y, both.union(*carrier), cause);
                     self.found.add(united)?;
                 }
@@ -296,7 +291,7 @@ impl Reach {
             union = union.union(carrier);
             self.united.push(other)?;
         }
-        Ok(if common.is_empty() { Some(union) } else { None })
+        Ok(common.is_empty().then_some(union))
     }
 
     // Lists the semi entries of the pair that were taken before.

@@ -56,22 +56,16 @@ impl Walk {
         let Some(entry) = found.entries().get(number as usize) else {
             return Ok(());
         };
-        let Some(seen) = self.seen.get_mut(number as usize) else {
-            return Ok(());
-        };
-        if *seen {
-            return Ok(());
+        match self.seen.get_mut(number as usize) {
+            Some(seen) if !*seen => *seen = true,
+            _ => return Ok(()),
         }
-        *seen = true;
         self.open.push(Step::Leave(number))?;
         for premise in found.many(entry.cause).iter().rev() {
             self.open.push(Step::Enter(*premise))?;
         }
-        let [first, second, third] = entry.cause.premises().numbers;
-        for premise in [third, second, first] {
-            if let Some(number) = premise {
-                self.open.push(Step::Enter(number))?;
-            }
+        for premise in entry.cause.premises().into_iter().flatten().rev() {
+            self.open.push(Step::Enter(premise))?;
         }
         Ok(())
     }

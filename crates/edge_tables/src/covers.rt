@@ -68,21 +68,15 @@ pub fn cover(
 {
     let mut best = Vec::new(alloc);
     let mut least = u64::MAX;
-    for start in 0..MOST_STARTS + 1 {
-        let first = if start < MOST_STARTS && start < list.len() {
-            Some(start)
-        } else {
-            None
-        };
+    let starts = list.len().min(MOST_STARTS);
+    for start in 0..starts + 1 {
+        let first = (start < starts).then_some(start);
         let mut chosen = chosen_from(alloc, list, region, saving, first)?;
         thin(list, region, &mut chosen);
         let cost = cost_of(list, &chosen, saving);
         if 2 <= chosen.len() && cost < least {
             best = chosen;
             least = cost;
-        }
-        if list.len() <= start {
-            return Ok(best);
         }
     }
     Ok(best)

@@ -53,5 +53,5 @@ mod tables;
 
 pub use covers::{Choice, Saving, choices_of, cover, together};
 pub use entries::{EdgeEntry, Key, Measure, Origin};
-pub use stops::Stop;
+pub use stops::FinderStop;
 pub use tables::Tables;

@@ -6,7 +6,7 @@ use std::alloc::{AllocError, AllocFailed};
 
 /// Why a call gave up.
 #[derive(Clone, Copy, Debug, PartialEq, Eq)]
-pub enum Stop {
+pub enum FinderStop {
     /// A table is full.
     Full,
     /// A search found no way on.
@@ -15,22 +15,22 @@ pub enum Stop {
     Memory,
 }
 
-impl From<AllocError> for Stop {
-    ghost use Rattle.edge_tables.specs.declared.stops.Stop.{Stop};
+impl From<AllocError> for FinderStop {
+    ghost use Rattle.edge_tables.specs.declared.stops.FinderStop.{FinderStop};
 
-    ghost from_gives = { λ _ stop. stop ≡ Stop.Memory };
+    ghost from_gives = { λ _ stop. stop ≡ FinderStop.Memory };
 
-    fn from(_refused: AllocError) -> Stop {
-        Stop::Memory
+    fn from(_refused: AllocError) -> FinderStop {
+        FinderStop::Memory
     }
 }
 
-impl<T: Drop> From<AllocFailed<T>> for Stop {
-    ghost use Rattle.edge_tables.specs.declared.stops.Stop.{Stop};
+impl<T: Drop> From<AllocFailed<T>> for FinderStop {
+    ghost use Rattle.edge_tables.specs.declared.stops.FinderStop.{FinderStop};
 
-    ghost from_gives = { λ _ stop. stop ≡ Stop.Memory };
+    ghost from_gives = { λ _ stop. stop ≡ FinderStop.Memory };
 
-    fn from(_refused: AllocFailed<T>) -> Stop {
-        Stop::Memory
+    fn from(_refused: AllocFailed<T>) -> FinderStop {
+        FinderStop::Memory
     }
 }

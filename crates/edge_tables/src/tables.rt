@@ -13,7 +13,7 @@ ghost use Rattle.edge_tables.specs.Entries.{with_lines_at, with_newest};
 
 use super::entries::{EdgeEntry, Key, Measure};
 use super::scopes::{Scope, add_among, set_lines_among};
-use super::stops::Stop;
+use super::stops::FinderStop;
 use conn_store::Kind;
 use hex_cells::{CellSet, Colour};
 use indexmap::IndexMap;
@@ -124,17 +124,17 @@ impl Tables {
     /// Adds an entry, unless one that is there makes it needless, and takes away those that it
     /// makes needless. A full table stays as it was; if memory runs out, those may be gone and the
     /// entry not there.
-    pub fn put(&mut self, key: &Key, entry: &EdgeEntry) -> Result<(), Stop>
+    pub fn put(&mut self, key: &Key, entry: &EdgeEntry) -> Result<(), FinderStop>
         ensures put { let es = entries_of self.old key.now in
             OnOk result (entries_of self.new key.now ≡ with_newest entry.now es) }
         ensures aside { AgreeBut key.now self.old self.new }
-        ensures full { result ≡ Err Stop.Full → self.new ≡ self.old }
+        ensures full { result ≡ Err FinderStop.Full → self.new ≡ self.old }
     {
         if self.has_better(key, entry) {
             return Ok(());
         }
         if MOST_ENTRIES <= self.count {
-            return Err(Stop::Full);
+            return Err(FinderStop::Full);
         }
         let others = self.count.saturating_sub(self.entries(key).len());
         self.add(key, entry)?;
@@ -165,7 +165,7 @@ impl Tables {
     }
 
     /// Puts all entries of a player that others have.
-    pub fn put_all(&mut self, others: &Tables, player: Colour) -> Result<(), Stop>
+    pub fn put_all(&mut self, others: &Tables, player: Colour) -> Result<(), FinderStop>
         ensures put { let scopes = values (scopes_of others.now player) in
             OnOk result (ArePut player scopes self.old self.new) }
         ensures other { AgreeOnOther player self.old self.new }
@@ -177,7 +177,7 @@ impl Tables {
     }
 
     // Puts the entries of a player with certain stones.
-    fn put_scope(&mut self, scope: &Scope, player: Colour) -> Result<(), Stop>
+    fn put_scope(&mut self, scope: &Scope, player: Colour) -> Result<(), FinderStop>
         ensures put { OnOk result (ArePut player (scope.now ∷ []) self.old self.new) }
         ensures other { AgreeOnOther player self.old self.new }
     {
@@ -197,7 +197,7 @@ impl Tables {
     }
 
     // Puts these entries of a key, one after the other.
-    fn put_each(&mut self, key: &Key, entries: &[EdgeEntry]) -> Result<(), Stop>
+    fn put_each(&mut self, key: &Key, entries: &[EdgeEntry]) -> Result<(), FinderStop>
         ensures put { let es = entries_of self.old key.now in
             OnOk result (entries_of self.new key.now ≡ with_each entries.now es) }
         ensures aside { AgreeBut key.now self.old self.new }

@@ -1,6 +1,6 @@
 //! Derivations of entries between the edges, by H-search.
 
-use super::pools::{Derivation, Derived, Places, Pool, Step};
+use super::pools::{Derivation, Places, Rule, Step};
 use conn_store::Kind;
 use edge_reach::{Cause, Entry, Limits, Question, Reach, Until};
 use edge_tables::{EdgeEntry, Key, Origin};
@@ -12,6 +12,7 @@ use std::alloc::{AllocError, Global};
 /// Makes the derivations of a player's entries, and keeps them.
 #[derive(Drop)]
 pub(crate) struct Deriver {
+    alloc: Global,
     size: Size,
     player: Colour,
     // Reports with many, few and very few entries of a pair: each finds some that are shorter.
@@ -20,8 +21,6 @@ pub(crate) struct Deriver {
     again: Vec<Reach>,
     // For stones and a region what was derived there.
     known: IndexMap<(u128, u128), Vec<Derivation>>,
-    // The places of a report's entries in a derivation.
-    places: Vec<usize>,
 }
 
 // The limits of reports for short derivations.
@@ -34,24 +33,26 @@ const fn counted(full: usize, semi: usize) -> Limits {
     }
 }
 
+// Reports with each of these limits.
+fn reaches(alloc: Global, size: Size, limits: &[Limits]) -> Result<Vec<Reach>, AllocError> {
+    let each = limits.iter();
+    each.map(|limits| Reach::make(alloc, size, *limits))
+        .try_collect(alloc)
+}
+
 impl Deriver {
     /// Derivations of a player's entries on boards of this size.
     pub(crate) fn make(alloc: Global, size: Size, player: Colour) -> Result<Deriver, AllocError> {
-        let mut shortest = Vec::new(alloc);
-        for limits in [counted(10, 24), counted(4, 8), counted(2, 4)] {
-            shortest.push(Reach::make(alloc, size, limits)?)?;
-        }
-        let mut again = Vec::new(alloc);
-        for limits in [MOVER_LIMITS, OTHER_LIMITS] {
-            again.push(Reach::make(alloc, size, limits)?)?;
-        }
+        let short = [counted(10, 24), counted(4, 8), counted(2, 4)];
+        let shortest = reaches(alloc, size, &short)?;
+        let again = reaches(alloc, size, &[MOVER_LIMITS, OTHER_LIMITS])?;
         Ok(Deriver {
+            alloc,
             size,
             player,
             shortest,
             again,
             known: IndexMap::new(alloc),
-            places: Vec::new(alloc),
         })
     }
 
@@ -65,133 +66,111 @@ impl Deriver {
         }
     }
 
-    /// Pours the derivations of all entries that are found inside a region.
+    /// The derivations of all entries that are found inside a region.
     pub(crate) fn derive(
         &mut self,
-        alloc: Global,
         stones: CellSet,
         region: CellSet,
-        pool: &mut Pool,
-        have: &mut Vec<Derived>,
-    ) -> Result<(), AllocError> {
+    ) -> Result<&[Derivation], AllocError> {
         let place = (stones.bits(), region.bits());
         if !self.known.contains_key(&place) {
             let question = self.question(stones, region);
-            let mut list = Vec::new(alloc);
+            let mut list = Vec::new(self.alloc);
             for reach in self.shortest.iter_mut() {
                 reach.report(&question, Until::Closed)?;
-                take_out(alloc, reach, region, &mut self.places, &mut list)?;
+                take_out(self.alloc, reach, Kind::Full, region, &mut list)?;
+                take_out(self.alloc, reach, Kind::Semi, region, &mut list)?;
             }
             self.known.insert(place, list)?;
         }
-        if let Some(list) = self.known.get(&place) {
-            for derivation in list.iter() {
-                have.push(pool.pour(alloc, derivation)?)?;
-            }
+        match self.known.get(&place) {
+            Some(list) => Ok(list),
+            None => Ok(&[]),
         }
-        Ok(())
     }
 
     /// Whether a full entry is found inside a region, or semi ones that have no cell in common, so
     /// that cases show one.
     pub(crate) fn finds_full(
         &mut self,
-        alloc: Global,
         stones: CellSet,
         region: CellSet,
     ) -> Result<bool, AllocError> {
-        let mut pool = Pool::new(alloc);
-        let mut have = Vec::new(alloc);
-        self.derive(alloc, stones, region, &mut pool, &mut have)?;
-        let mut common = region;
-        for derived in have.iter() {
-            if derived.kind == Kind::Full {
-                return Ok(true);
-            }
-            common = common.meet(derived.carrier);
+        let list = self.derive(stones, region)?;
+        if list.iter().any(|derivation| derivation.kind == Kind::Full) {
+            return Ok(true);
         }
-        Ok(!have.is_empty() && common.is_empty())
+        let mut common = region;
+        for derivation in list {
+            common = common.meet(derivation.carrier);
+        }
+        Ok(!list.is_empty() && common.is_empty())
     }
 
-    /// Pours a derivation of an entry that the search had by a report, or of narrower ones.
+    /// Derivations of an entry that the search had by a report, or of narrower ones.
     pub(crate) fn derive_again(
         &mut self,
-        alloc: Global,
         key: &Key,
         entry: &EdgeEntry,
-        pool: &mut Pool,
-        have: &mut Vec<Derived>,
-    ) -> Result<(), AllocError> {
+    ) -> Result<Vec<Derivation>, AllocError> {
+        let mut list = Vec::new(self.alloc);
         let Origin::Report(region) = entry.origin else {
-            return Ok(());
+            return Ok(list);
         };
         for area in [entry.carrier, region] {
             let question = self.question(key.stones, area);
             for until in [Until::FirstWin, Until::Threats, Until::Closed] {
-                let mut list = Vec::new(alloc);
                 for reach in self.again.iter_mut() {
                     reach.report(&question, until)?;
-                    take_out(alloc, reach, entry.carrier, &mut self.places, &mut list)?;
+                    take_out(self.alloc, reach, key.kind, entry.carrier, &mut list)?;
                 }
-                let before = have.len();
-                for derivation in list.iter() {
-                    if derivation.kind == key.kind {
-                        have.push(pool.pour(alloc, derivation)?)?;
-                    }
-                }
-                if before < have.len() {
-                    return Ok(());
+                if !list.is_empty() {
+                    return Ok(list);
                 }
             }
         }
-        Ok(())
+        Ok(list)
     }
 }
 
-// Lists the entries between the edges whose carriers lie inside the region.
+// Lists the entries of a kind between the edges whose carriers lie inside the region.
 fn take_out(
     alloc: Global,
     reach: &mut Reach,
+    kind: Kind,
     region: CellSet,
-    places: &mut Vec<usize>,
     list: &mut Vec<Derivation>,
 ) -> Result<(), AllocError> {
-    for kind in [Kind::Full, Kind::Semi] {
-        for place in 0..reach.between_edges(kind).len() {
-            if let Some(number) = reach.between_edges(kind).get(place).copied()
-                && let Some(entry) = reach.entry(number).copied()
-                && !entry.is_given_up()
-                && entry.carrier.inside(region)
-            {
-                let steps = steps_of(alloc, reach, number, places)?;
-                list.push(Derivation {
-                    kind,
-                    carrier: entry.carrier,
-                    steps,
-                })?;
-            }
+    let mut places = vec![in alloc; 0usize; reach.count()]?;
+    for number in reach.between_edges(kind).to_vec(alloc)? {
+        if let Some(entry) = reach.entry(number).copied()
+            && !entry.is_given_up()
+            && entry.carrier.inside(region)
+        {
+            list.push(Derivation {
+                kind,
+                carrier: entry.carrier,
+                steps: steps_of(alloc, reach, number, &mut places)?,
+            })?;
         }
     }
     Ok(())
 }
 
-// The lines of an entry.
+// The lines of an entry. The places are those of the report's entries among them.
 fn steps_of(
     alloc: Global,
     reach: &mut Reach,
     number: u32,
-    places: &mut Vec<usize>,
+    places: &mut [usize],
 ) -> Result<Vec<Step>, AllocError> {
-    if places.len() < reach.count() {
-        places.resize(reach.count(), 0)?;
-    }
     let order = reach.derivation(number)?.to_vec(alloc)?;
     let mut steps = Vec::new(alloc);
-    for number in order.iter() {
-        if let Some(entry) = reach.entry(*number) {
-            if let Some(place) = places.get_mut(*number as usize) {
-                *place = steps.len();
-            }
+    for number in order {
+        if let Some(entry) = reach.entry(number)
+            && let Some(place) = places.get_mut(number as usize)
+        {
+            *place = steps.len();
             steps.push(step_of(reach, entry, places))?;
         }
     }
@@ -200,21 +179,16 @@ fn steps_of(
 
 // The line of an entry, by the places of its premises.
 fn step_of(reach: &Reach, entry: &Entry, places: &[usize]) -> Step {
-    let at = |number: u32| number as usize;
-    let step = match entry.cause {
+    let by = |rule: Rule, premises: &[u32]| Step::By(rule, Places::at(places, premises));
+    match entry.cause {
         Cause::Adjacent => {
             let (x, y) = (reach.end(entry.x), reach.end(entry.y));
-            if x < y {
-                Step::Adj(x, y)
-            } else {
-                Step::Adj(y, x)
-            }
+            Step::Adj(x.min(y), x.max(y))
         }
-        Cause::And(i, j) => Step::And(at(i), at(j)),
-        Cause::Key(i, j) => Step::Key(at(i), at(j)),
-        Cause::Or2(i, j) => Step::Or(Places::of(&[i, j])),
-        Cause::Or3(i, j, k) => Step::Or(Places::of(&[i, j, k])),
-        Cause::OrMany(_, _) => Step::Or(Places::of(reach.many(entry.cause))),
-    };
-    step.moved(places)
+        Cause::And(i, j) => by(Rule::And, &[i, j]),
+        Cause::Key(i, j) => by(Rule::Key, &[i, j]),
+        Cause::Or2(i, j) => by(Rule::Or, &[i, j]),
+        Cause::Or3(i, j, k) => by(Rule::Or, &[i, j, k]),
+        Cause::OrMany(_, _) => by(Rule::Or, reach.many(entry.cause)),
+    }
 }

@@ -2,7 +2,7 @@
 
 use super::pools::Pool;
 use conn_store::Kind;
-use edge_tables::Stop;
+use edge_tables::{FinderStop, Key};
 use hex_cells::{Cell, CellSet, Colour};
 use indexmap::IndexMap;
 use std::alloc::{AllocError, Global};
@@ -24,20 +24,25 @@ pub(crate) enum At {
 /// What a scope is to show: an entry of a kind inside a region.
 #[derive(Clone, Copy, Debug, PartialEq, Eq)]
 pub(crate) struct Need {
+    /// Its own place among the needs.
+    pub place: usize,
     pub kind: Kind,
     pub region: CellSet,
+    /// The region in which another entry would do.
+    pub wide: CellSet,
     /// The place of the scope.
     pub scope: usize,
     /// The line that shows it, once it is served.
     pub line: Option<At>,
 }
 
-/// A stone that is used: the player wins by it, as the need shows, and the region in which another
-/// semi entry would do.
+/// A stone by which the player wins.
 #[derive(Clone, Copy, Debug, PartialEq, Eq)]
 pub(crate) struct Stone {
     pub cell: Cell,
+    /// The need that shows it, in the scope with this stone more.
     pub need: usize,
+    /// The region in which another stone would do.
     pub wide: CellSet,
 }
 
@@ -48,6 +53,7 @@ pub(crate) struct Block {
     /// The places of its needs.
     pub needs: Vec<usize>,
     pub pool: Pool,
+    /// The stones by which the player wins.
     pub moves: Vec<Stone>,
     /// For each line by cases the needs of these.
     pub cases: Vec<Vec<usize>>,
@@ -56,6 +62,7 @@ pub(crate) struct Block {
 /// A draft. Scopes come in the order in which they are needed, so those with more stones later.
 #[derive(Drop)]
 pub(crate) struct Draft {
+    pub alloc: Global,
     /// Who wins by it.
     pub player: Colour,
     pub blocks: IndexMap<u128, Block>,
@@ -66,65 +73,64 @@ impl Draft {
     /// Nothing yet.
     pub(crate) fn new(alloc: Global, player: Colour) -> Draft {
         Draft {
+            alloc,
             player,
             blocks: IndexMap::new(alloc),
             needs: Vec::new(alloc),
         }
     }
 
-    /// The block at a place.
-    pub(crate) fn block(&self, place: usize) -> Option<&Block> {
-        let (_stones, block) = self.blocks.get_index(place)?;
-        Some(block)
+    /// Of whom the entries of a kind in a scope speak.
+    pub(crate) fn key(&self, kind: Kind, stones: CellSet) -> Key {
+        Key {
+            player: self.player,
+            kind,
+            stones,
+        }
     }
 
-    /// The need at a place.
-    pub(crate) fn need(&self, place: usize) -> Option<Need> {
-        self.needs.get(place).copied()
+    /// The block at a place, to be written.
+    pub(crate) fn block_mut(&mut self, place: usize) -> Result<&mut Block, FinderStop> {
+        self.blocks.get_index_mut(place).ok_or(FinderStop::NoWay)
     }
 
-    /// The place of the scope with these stones, if it is wanted.
-    pub(crate) fn find(&self, stones: CellSet) -> Option<usize> {
-        self.blocks.get_index_of(&stones.bits())
-    }
-
-    /// Adds what the scope with these stones is to show: the place of the need.
+    /// Adds what the scope with these stones is to show.
     pub(crate) fn add_need(
         &mut self,
-        alloc: Global,
         stones: CellSet,
         kind: Kind,
         region: CellSet,
-    ) -> Result<usize, Stop> {
-        let need = self.needs.len();
-        if MOST_NEEDS <= need {
-            return Err(Stop::Full);
+    ) -> Result<Need, FinderStop> {
+        let place = self.needs.len();
+        if MOST_NEEDS <= place {
+            return Err(FinderStop::Full);
         }
-        let scope = self.scope_of(alloc, stones)?;
-        self.needs.push(Need {
+        let scope = self.scope_of(stones)?;
+        let need = Need {
+            place,
             kind,
             region,
+            wide: region,
             scope,
             line: None,
-        })?;
-        if let Some(block) = self.blocks.get_index_mut(scope) {
-            block.needs.push(need)?;
-        }
+        };
+        self.needs.push(need)?;
+        self.block_mut(scope)?.needs.push(place)?;
         Ok(need)
     }
 
     // The place of the scope with these stones, which is made if there is none.
-    fn scope_of(&mut self, alloc: Global, stones: CellSet) -> Result<usize, AllocError> {
-        if let Some(place) = self.find(stones) {
+    fn scope_of(&mut self, stones: CellSet) -> Result<usize, AllocError> {
+        if let Some(place) = self.blocks.get_index_of(&stones.bits()) {
             return Ok(place);
         }
         let place = self.blocks.len();
         let block = Block {
             stones,
-            needs: Vec::new(alloc),
-            pool: Pool::new(alloc),
-            moves: Vec::new(alloc),
-            cases: Vec::new(alloc),
+            needs: Vec::new(self.alloc),
+            pool: Pool::new(self.alloc),
+            moves: Vec::new(self.alloc),
+            cases: Vec::new(self.alloc),
         };
         self.blocks.insert(stones.bits(), block)?;
         Ok(place)
@@ -139,13 +145,18 @@ impl Draft {
         }
     }
 
-    /// How many lines the certificate has: those of the blocks, and one more for each scope.
+    /// How many lines the certificate has: those of the scopes, and one more for each.
     pub(crate) fn line_count(&self) -> usize {
-        let mut count = 0usize;
-        for block in self.blocks.values() {
-            count = count.saturating_add(1).saturating_add(block.line_count());
-        }
-        count
+        let counts = self.blocks.values().map(|block| block.line_count());
+        counts.fold(self.blocks.len(), |sum, count| sum.saturating_add(count))
+    }
+
+    /// The needs of the scope at a place.
+    pub(crate) fn needs_of(&self, scope: usize) -> Result<Vec<Need>, FinderStop> {
+        let (_stones, block) = self.blocks.get_index(scope).ok_or(FinderStop::NoWay)?;
+        let places = block.needs.iter();
+        let needs = places.filter_map(|place| self.needs.get(*place).copied());
+        Ok(needs.collect(self.alloc)?)
     }
 }
 

@@ -1,9 +1,9 @@
 //! What it costs to show something in a scope, beside what is to be written there already.
 
 use super::drafts::Draft;
-use super::pools::{Derived, Pool};
+use super::pools::{Derived, fresh};
 use conn_store::Kind;
-use edge_tables::{EdgeEntry, Key, Tables};
+use edge_tables::{EdgeEntry, Tables};
 use hex_cells::{Cell, CellSet};
 
 /// A line costs so much.
@@ -32,16 +32,25 @@ pub(crate) struct Way {
 }
 
 impl Way {
+    /// Whether it is by a stone.
+    pub(crate) fn is_stone(&self) -> bool {
+        matches!(self.by, By::Stone(_, _))
+    }
+
     /// What it costs beside the lines that are chosen.
-    pub(crate) fn cost(&self, pool: &Pool, have: &[Derived]) -> u64 {
+    pub(crate) fn cost(&self, chosen: &[bool], have: &[Derived]) -> u64 {
         match self.by {
             By::Stone(_cell, price) => price,
-            By::Derived(place) => match have.get(place) {
-                Some(derived) => LINE.saturating_mul(pool.fresh(&derived.places) as u64),
-                None => u64::MAX,
-            },
+            By::Derived(place) => have
+                .get(place)
+                .map_or(0, |derived| derived_cost(chosen, derived)),
         }
     }
+}
+
+/// What a derivation costs beside the lines that are chosen.
+pub(crate) fn derived_cost(chosen: &[bool], derived: &Derived) -> u64 {
+    LINE.saturating_mul(fresh(chosen, &derived.places) as u64)
 }
 
 /// What a stone costs that leads to the scope with these stones, by this full entry.
@@ -51,33 +60,21 @@ pub(crate) fn stone_price(
     stones: CellSet,
     full: &EdgeEntry,
 ) -> u64 {
-    let Some(scope) = draft.find(stones) else {
+    let Some(block) = draft.blocks.get(&stones.bits()) else {
         return NEW_SCOPE + u64::from(full.lines) * OF_ENTRY + LINE;
     };
-    if may_be_joined(tables, draft, scope, full.carrier) {
+    // Whether a need may be served together with one of such an entry.
+    let key = draft.key(Kind::Full, stones);
+    let joins = |region: CellSet| {
+        full.carrier.inside(region) || tables.has(&key, region.meet(full.carrier))
+    };
+    let mut needs = block
+        .needs
+        .iter()
+        .filter_map(|place| draft.needs.get(*place));
+    if needs.any(|need| need.kind == Kind::Full && joins(need.region)) {
         2 * LINE
     } else {
         NEW_SCOPE / 2 + LINE
     }
-}
-
-// Whether a need of the scope at this place may be served together with one of such an entry.
-fn may_be_joined(tables: &Tables, draft: &Draft, scope: usize, carrier: CellSet) -> bool {
-    let Some(block) = draft.block(scope) else {
-        return false;
-    };
-    let key = Key {
-        player: draft.player,
-        kind: Kind::Full,
-        stones: block.stones,
-    };
-    for place in block.needs.iter() {
-        if let Some(need) = draft.need(*place)
-            && need.kind == Kind::Full
-            && (carrier.inside(need.region) || tables.has(&key, need.region.meet(carrier)))
-        {
-            return true;
-        }
-    }
-    false
 }

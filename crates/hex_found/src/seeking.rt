@@ -9,12 +9,12 @@ use super::layouts::cert_of;
 use super::recounts::recount;
 use super::refusals::Memory;
 use super::tasks::{Task, tasks_of};
-use edge_tables::Stop;
+use edge_tables::FinderStop;
 use hex_board::Board;
-use hex_cells::{Colour, Size};
+use hex_cells::Colour;
 use hex_scout::{Order, Search, State};
 use indexmap::IndexMap;
-use std::alloc::{AllocError, Global};
+use std::alloc::Global;
 use win_cert::Cert;
 
 /// What a search found. No clause says that it is so, but for the budget.
@@ -50,14 +50,17 @@ const LITTLE: usize = 98;
 // What was found, and the shortest draft of it.
 #[derive(Drop)]
 struct Work {
-    size: Size,
+    alloc: Global,
+    root: State,
+    player: Colour,
     search: Search,
     deriver: Deriver,
-    player: Colour,
     // With how many states it was tried to show something: its stones and region.
     tried: IndexMap<(u128, u128), u64>,
     best: Option<Draft>,
     lines: usize,
+    // How many lines are wanted.
+    wanted: usize,
 }
 
 /// Searches who wins the position, entering at most `budget` states. If the certificate has more
@@ -88,30 +91,49 @@ pub fn seek(
         return Ok(sought);
     }
     match search(alloc, &root, budget, wanted, &mut sought) {
-        Err(Stop::Memory) => Err(Memory),
+        Err(FinderStop::Memory) => Err(Memory),
         _ => Ok(sought),
     }
 }
 
-// Searches by the best order, and makes a certificate of what that finds.
+// Decides who wins, and makes a certificate of what that finds.
 fn search(
     alloc: Global,
     root: &State,
     budget: u64,
     wanted: usize,
     sought: &mut Sought,
-) -> Result<(), Stop>
+) -> Result<(), FinderStop>
     requires none { sought.old.entered ≡ 0 }
     ensures within { sought.new.entered ≤ budget }
 {
-    let mut search = Search::make(alloc, root.board.size(), Order::BEST)?;
-    match decide(alloc, &mut search, root, budget, sought)? {
-        Some(true) => make_cert(alloc, search, root, root.mover, budget, wanted, sought),
-        Some(false) => {
-            let other = root.mover.other();
-            make_cert(alloc, search, root, other, budget, wanted, sought)
-        }
+    let mut search = Search::make(alloc, root.board.size(), Order::best())?;
+    match decide(&mut search, root, budget, sought)? {
+        Some(player) => make_cert(alloc, search, root, player, budget, wanted, sought),
         None => Ok(()),
+    }
+}
+
+// Decides who wins, and if the mover does looks for a stone by which he does.
+fn decide(
+    search: &mut Search,
+    root: &State,
+    budget: u64,
+    sought: &mut Sought,
+) -> Result<Option<Colour>, FinderStop>
+    requires none { sought.old.entered ≡ 0 }
+    ensures within { sought.new.entered ≤ budget }
+{
+    let outcome = search.decide(root, budget);
+    sought.entered = outcome.entered;
+    sought.by_mover = outcome.by_mover?;
+    match sought.by_mover {
+        Some(true) => {
+            sought.entered += search.look_for_stone(root, budget - sought.entered)?;
+            Ok(Some(root.mover))
+        }
+        Some(false) => Ok(Some(root.mover.other())),
+        None => Ok(None),
     }
 }
 
@@ -124,63 +146,33 @@ fn make_cert(
     budget: u64,
     wanted: usize,
     sought: &mut Sought,
-) -> Result<(), Stop>
+) -> Result<(), FinderStop>
     requires within { sought.old.entered ≤ budget }
     ensures within { sought.new.entered ≤ budget }
 {
-    let mut work = Work::make(alloc, search, root, player)?;
-    let end = work.shorten(alloc, root, budget, wanted, sought);
-    work.put_cert(alloc, root, sought)?;
+    let mut work = Work {
+        alloc,
+        root: *root,
+        player,
+        search,
+        deriver: Deriver::make(alloc, root.board.size(), player)?,
+        tried: IndexMap::new(alloc),
+        best: None,
+        lines: usize::MAX,
+        wanted,
+    };
+    let end = work.shorten(budget, &mut sought.entered);
+    work.put_cert(sought)?;
     end
 }
 
-// Decides who wins, and if the mover does looks for a stone by which he does.
-fn decide(
-    alloc: Global,
-    search: &mut Search,
-    root: &State,
-    budget: u64,
-    sought: &mut Sought,
-) -> Result<Option<bool>, Stop>
-    requires none { sought.old.entered ≡ 0 }
-    ensures within { sought.new.entered ≤ budget }
-{
-    let outcome = search.decide(alloc, root, budget);
-    sought.entered = outcome.entered;
-    sought.by_mover = outcome.by_mover?;
-    if sought.by_mover == Some(true) {
-        sought.entered += search.look_for_stone(alloc, root, budget - sought.entered)?;
-    }
-    Ok(sought.by_mover)
-}
-
 impl Work {
-    // No draft yet.
-    fn make(
-        alloc: Global,
-        search: Search,
-        root: &State,
-        player: Colour,
-    ) -> Result<Work, AllocError> {
-        let size = root.board.size();
-        let deriver = Deriver::make(alloc, size, player)?;
-        Ok(Work {
-            size,
-            search,
-            deriver,
-            player,
-            tried: IndexMap::new(alloc),
-            best: None,
-            lines: usize::MAX,
-        })
-    }
-
     // Makes a certificate of the shortest draft.
-    fn put_cert(&self, alloc: Global, root: &State, sought: &mut Sought) -> Result<(), AllocError>
+    fn put_cert(&self, sought: &mut Sought) -> Result<(), FinderStop>
         ensures kept { sought.new.entered ≡ sought.old.entered }
     {
         if let Some(draft) = self.best.as_ref() {
-            sought.cert = Some(cert_of(alloc, draft, root, self.player)?);
+            sought.cert = Some(cert_of(draft, &self.root)?);
             sought.lines = self.lines;
         }
         Ok(())
@@ -188,49 +180,35 @@ impl Work {
 
     // Makes drafts, of what was found and of what searches by other orders find, until one has no
     // more lines than are wanted.
-    fn shorten(
-        &mut self,
-        alloc: Global,
-        root: &State,
-        budget: u64,
-        wanted: usize,
-        sought: &mut Sought,
-    ) -> Result<(), Stop>
-        requires within { sought.old.entered ≤ budget }
-        ensures within { sought.new.entered ≤ budget }
+    fn shorten(&mut self, budget: u64, entered: &mut u64) -> Result<(), FinderStop>
+        requires within { entered.old ≤ budget }
+        ensures within { entered.new ≤ budget }
     {
-        self.draft(alloc, root)?;
+        self.draft()?;
         for order in Order::others() {
-            if self.lines <= wanted {
+            if self.lines <= self.wanted {
                 return Ok(());
             }
-            self.search_again(alloc, root, order, budget, sought)?;
-            self.draft(alloc, root)?;
+            *entered += self.search_again(order, budget - *entered)?;
+            self.draft()?;
         }
-        self.polish(alloc, root, budget, wanted, sought)
+        self.polish(budget, entered)
     }
 
     // Looks for short proofs where the draft is dear, while it has more lines than are wanted and
     // budget is left.
-    fn polish(
-        &mut self,
-        alloc: Global,
-        root: &State,
-        budget: u64,
-        wanted: usize,
-        sought: &mut Sought,
-    ) -> Result<(), Stop>
-        requires within { sought.old.entered ≤ budget }
-        ensures within { sought.new.entered ≤ budget }
+    fn polish(&mut self, budget: u64, entered: &mut u64) -> Result<(), FinderStop>
+        requires within { entered.old ≤ budget }
+        ensures within { entered.new ≤ budget }
     {
         let mut states = FIRST_STATES;
         'passes: for _pass in 0..MOST_PASSES {
-            if self.lines <= wanted || MOST_STATES < states || budget <= sought.entered {
+            if self.lines <= self.wanted || MOST_STATES < states || budget <= *entered {
                 return Ok(());
             }
             let before = self.lines;
-            self.show_tasks(alloc, states, budget, sought)?;
-            self.draft(alloc, root)?;
+            self.show_tasks(states, budget, entered)?;
+            self.draft()?;
             if before.saturating_mul(LITTLE) / 100 <= self.lines {
                 states = states.saturating_mul(MORE_STATES);
             }
@@ -239,91 +217,66 @@ impl Work {
     }
 
     // Tries to show what would make the draft shorter.
-    fn show_tasks(
-        &mut self,
-        alloc: Global,
-        states: u64,
-        budget: u64,
-        sought: &mut Sought,
-    ) -> Result<(), Stop>
-        requires within { sought.old.entered ≤ budget }
-        ensures within { sought.new.entered ≤ budget }
+    fn show_tasks(&mut self, states: u64, budget: u64, entered: &mut u64) -> Result<(), FinderStop>
+        requires within { entered.old ≤ budget }
+        ensures within { entered.new ≤ budget }
     {
         let Some(draft) = self.best.as_ref() else {
             return Ok(());
         };
-        let tasks = tasks_of(alloc, draft)?;
-        for task in tasks.iter() {
+        for task in tasks_of(draft)? {
             let most = if task.is_common {
                 states.saturating_mul(COMMON_STATES)
             } else {
                 states
             };
-            let left = budget - sought.entered;
-            sought.entered += self.try_task(alloc, task, most.min(left))?;
+            *entered += self.try_task(&task, most.min(budget - *entered))?;
         }
         Ok(())
     }
 
     // Tries to show something by so many states: how many were entered.
-    fn try_task(&mut self, alloc: Global, task: &Task, states: u64) -> Result<u64, Stop>
+    fn try_task(&mut self, task: &Task, states: u64) -> Result<u64, FinderStop>
         ensures within { IfOk result (λ entered. entered ≤ states) }
     {
         let place = (task.stones.bits(), task.region.bits());
-        if self
-            .tried
-            .get(&place)
-            .is_some_and(|before| states <= *before)
-        {
+        let before = self.tried.get(&place).copied();
+        let board = task.board(self.root.board.size(), self.player);
+        if before.is_some_and(|before| states <= before) || board.winner().is_some() {
             return Ok(0);
         }
         self.tried.insert(place, states)?;
-        let board = task.board(self.size, self.player);
-        if board.winner().is_some() {
-            return Ok(0);
-        }
-        let state = State {
-            board,
-            mover: self.player.other(),
-        };
-        let outcome = self.search.decide(alloc, &state, states);
+        let mover = self.player.other();
+        let outcome = self.search.decide(&State { board, mover }, states);
         match outcome.by_mover {
-            Err(Stop::Memory) => Err(Stop::Memory),
+            Err(FinderStop::Memory) => Err(FinderStop::Memory),
             _ => Ok(outcome.entered),
         }
     }
 
-    // Searches by another order, out of what is left of the budget, and puts what that finds to the
-    // rest.
-    fn search_again(
-        &mut self,
-        alloc: Global,
-        root: &State,
-        order: Order,
-        budget: u64,
-        sought: &mut Sought,
-    ) -> Result<(), Stop>
-        requires within { sought.old.entered ≤ budget }
-        ensures within { sought.new.entered ≤ budget }
+    // Searches by another order, and puts what that finds to the rest: how many states it entered.
+    fn search_again(&mut self, order: Order, states: u64) -> Result<u64, FinderStop>
+        ensures within { IfOk result (λ entered. entered ≤ states) }
     {
-        let mut other = Search::make(alloc, root.board.size(), order)?;
-        let outcome = other.decide(alloc, root, budget - sought.entered);
-        sought.entered += outcome.entered;
+        let mut other = Search::make(self.alloc, self.root.board.size(), order)?;
+        let outcome = other.decide(&self.root, states);
         match outcome.by_mover {
-            Err(Stop::Memory) => Err(Stop::Memory),
+            Err(FinderStop::Memory) => return Err(FinderStop::Memory),
             _ => self
                 .search
                 .tables_mut()
-                .put_all(other.tables(), self.player),
+                .put_all(other.tables(), self.player)?,
         }
+        Ok(outcome.entered)
     }
 
     // Makes a draft of what was found, and keeps it if it is the first or shorter.
-    fn draft(&mut self, alloc: Global, root: &State) -> Result<(), Stop> {
-        recount(alloc, self.search.tables_mut(), self.player)?;
-        let tables = self.search.tables();
-        let Some(draft) = assemble(alloc, &mut self.deriver, tables, root, self.player)? else {
-            return Ok(());
+    fn draft(&mut self) -> Result<(), FinderStop> {
+        recount(self.alloc, self.search.tables_mut(), self.player)?;
+        let (tables, deriver) = (self.search.tables(), &mut self.deriver);
+        let draft = match assemble(self.alloc, deriver, tables, &self.root, self.player) {
+            Err(FinderStop::NoWay) => return Ok(()),
+            made => made?,
         };
         let lines = draft.line_count();
         if lines < self.lines {

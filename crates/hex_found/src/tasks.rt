@@ -7,7 +7,7 @@ use conn_store::Kind;
 use edge_reach::cells_of;
 use hex_board::Board;
 use hex_cells::{CellSet, Colour, Size};
-use std::alloc::{AllocError, Global};
+use std::alloc::AllocError;
 
 // A stone is dear if the scope to which it leads costs so much a use.
 const DEAR: u64 = 100 * LINE;
@@ -38,9 +38,9 @@ impl Task {
 
 /// What would make the draft shorter: for each scope what all its full needs have in common, and
 /// in place of each dear stone every other one, those of scopes with many stones first.
-pub(crate) fn tasks_of(alloc: Global, draft: &Draft) -> Result<Vec<Task>, AllocError> {
-    let weights = weights_of(alloc, draft)?;
-    let mut tasks = Vec::new(alloc);
+pub(crate) fn tasks_of(draft: &Draft) -> Result<Vec<Task>, AllocError> {
+    let weights = weights_of(draft)?;
+    let mut tasks = Vec::new(draft.alloc);
     for block in draft.blocks.values().rev() {
         list_common(draft, block, &mut tasks)?;
     }
@@ -54,10 +54,12 @@ pub(crate) fn tasks_of(alloc: Global, draft: &Draft) -> Result<Vec<Task>, AllocE
 fn list_common(draft: &Draft, block: &Block, tasks: &mut Vec<Task>) -> Result<(), AllocError> {
     let mut union = CellSet::none();
     let mut common = CellSet::all(Size::LARGEST);
-    for place in block.needs.iter() {
-        if let Some(need) = draft.need(*place)
-            && need.kind == Kind::Full
-        {
+    for need in block
+        .needs
+        .iter()
+        .filter_map(|place| draft.needs.get(*place))
+    {
+        if need.kind == Kind::Full {
             union = union.union(need.region);
             common = common.meet(need.region);
         }

@@ -2,10 +2,11 @@
 
 use super::orders::Currents;
 use super::states::State;
+use circuit::Mesh;
 use conn_store::Kind;
-use edge_reach::{Circuit, Limits, Question, Reach, Until};
-use edge_tables::{EdgeEntry, Key, Origin, Stop, Tables};
-use hex_cells::{CellSet, Colour, Size};
+use edge_reach::{Limits, Question, Reach, Until};
+use edge_tables::{EdgeEntry, FinderStop, Key, Origin, Tables};
+use hex_cells::{Colour, Size};
 use std::alloc::{AllocError, Global};
 
 /// How much the mover's report keeps. It ends at the first entry between his edges.
@@ -29,7 +30,7 @@ pub const OTHER_LIMITS: Limits = Limits {
 pub(crate) struct Reporters {
     mover: Reach,
     other: Reach,
-    circuit: Circuit,
+    mesh: Mesh,
 }
 
 impl Reporters {
@@ -37,12 +38,8 @@ impl Reporters {
     pub(crate) fn make(alloc: Global, size: Size) -> Result<Reporters, AllocError> {
         let mover = Reach::make(alloc, size, MOVER_LIMITS)?;
         let other = Reach::make(alloc, size, OTHER_LIMITS)?;
-        let circuit = Circuit::make(alloc)?;
-        Ok(Reporters {
-            mover,
-            other,
-            circuit,
-        })
+        let mesh = Mesh::make(alloc)?;
+        Ok(Reporters { mover, other, mesh })
     }
 
     /// Makes the mover's report, and keeps his semi entries: whether there is one.
@@ -50,7 +47,7 @@ impl Reporters {
         &mut self,
         state: &State,
         tables: &mut Tables,
-    ) -> Result<bool, Stop> {
+    ) -> Result<bool, FinderStop> {
         let question = question_of(state, state.mover);
         self.mover.report(&question, Until::FirstWin)?;
         let is_win = !self.mover.between_edges(Kind::Semi).is_empty();
@@ -59,19 +56,21 @@ impl Reporters {
     }
 
     /// Makes the other player's report, and keeps his entries.
-    pub(crate) fn report_other(&mut self, state: &State, tables: &mut Tables) -> Result<(), Stop> {
+    pub(crate) fn report_other(
+        &mut self,
+        state: &State,
+        tables: &mut Tables,
+    ) -> Result<(), FinderStop> {
         let question = question_of(state, state.mover.other());
         self.other.report(&question, Until::Threats)?;
         keep(&mut self.other, &question, Kind::Full, tables)?;
         keep(&mut self.other, &question, Kind::Semi, tables)
     }
 
-    /// Puts the currents of both reports.
-    pub(crate) fn put_currents(&mut self, cells: CellSet, currents: &mut Currents) {
-        self.mover.load_circuit(&mut self.circuit);
-        currents.take_mover(&self.circuit, cells);
-        self.other.load_circuit(&mut self.circuit);
-        currents.take_other(&self.circuit, cells);
+    /// The currents of both reports, the mover's first.
+    pub(crate) fn currents(&mut self) -> (Currents, Currents) {
+        let mover = self.mover.currents(&mut self.mesh);
+        (mover, self.other.currents(&mut self.mesh))
     }
 }
 
@@ -91,7 +90,7 @@ fn keep(
     question: &Question,
     kind: Kind,
     tables: &mut Tables,
-) -> Result<(), Stop> {
+) -> Result<(), FinderStop> {
     let key = Key {
         player: question.player,
         kind,
@@ -103,14 +102,12 @@ fn keep(
             && !entry.is_given_up()
         {
             let lines = reach.derivation(number)?.len();
-            tables.put(
-                &key,
-                &EdgeEntry {
-                    carrier: entry.carrier,
-                    lines: u32::try_from(lines).unwrap_or(u32::MAX),
-                    origin: Origin::Report(question.region),
-                },
-            )?;
+            let entry = EdgeEntry {
+                carrier: entry.carrier,
+                lines: u32::try_from(lines).unwrap_or(u32::MAX),
+                origin: Origin::Report(question.region),
+            };
+            tables.put(&key, &entry)?;
         }
     }
     Ok(())

@@ -3,23 +3,24 @@
 
 ghost use Rattle.std.specs.Prelude.{◌≡◌, ◌≤◌, IfOk, None, Ok};
 
-use super::nodes::{Effort, MOST_NODES, NEVER, Nodes};
-use super::orders::{Currents, Order};
+use super::nodes::{Effort, MOST_NODES, NEVER, Nodes, ScoutNode, key_of};
+use super::orders::Order;
 use super::reporters::Reporters;
 use super::states::State;
 use conn_store::Kind;
 use edge_reach::cells_of;
 use edge_tables::{
-    EdgeEntry, Key, Measure, Origin, Saving, Stop, Tables, choices_of, cover, together,
+    EdgeEntry, FinderStop, Measure, Origin, Saving, Tables, choices_of, cover, together,
 };
 use hex_cells::{Cell, CellSet, MOST_CELLS, Size};
+use indexmap::IndexMap;
 use std::alloc::Global;
 
 /// What a search came to.
 #[derive(Debug, Drop)]
 pub struct Outcome {
     /// Whether the player to move wins, `None` if the budget is spent; or why the search gave up.
-    pub by_mover: Result<Option<bool>, Stop>,
+    pub by_mover: Result<Option<bool>, FinderStop>,
     /// How many states were entered, with the one at which it stopped.
     pub entered: u64,
 }
@@ -40,17 +41,19 @@ pub struct Search {
     nodes: Nodes,
     reporters: Reporters,
     order: Order,
+    alloc: Global,
 }
 
 impl Search {
     /// A search that knows nothing, on boards of this size.
-    pub fn make(alloc: Global, size: Size, order: Order) -> Result<Search, Stop> {
+    pub fn make(alloc: Global, size: Size, order: Order) -> Result<Search, FinderStop> {
         let reporters = Reporters::make(alloc, size)?;
         Ok(Search {
             tables: Tables::new(alloc),
-            nodes: Nodes::new(alloc),
+            nodes: IndexMap::new(alloc),
             reporters,
             order,
+            alloc,
         })
     }
 
@@ -69,13 +72,13 @@ impl Search {
     ///
     /// A body is proved that says anything of who wins, or that counts states and enters none;
     /// tests tell what is found.
-    pub fn decide(&mut self, alloc: Global, root: &State, budget: u64) -> Outcome
+    pub fn decide(&mut self, root: &State, budget: u64) -> Outcome
         ensures within { result.entered ≤ budget }
         ensures spent { result.by_mover ≡ Ok None → result.entered ≡ budget }
     {
-        let mut path = Vec::new(alloc);
+        let mut path = Vec::new(self.alloc);
         for entered in 0..budget {
-            let next = self.enter_next(alloc, root, &mut path);
+            let next = self.enter_next(root, &mut path);
             match next {
                 Ok(None) => {}
                 Ok(Some(by_mover)) => {
@@ -92,7 +95,7 @@ impl Search {
                 }
             }
         }
-        let by_mover = match self.go_down(alloc, root, &mut path) {
+        let by_mover = match self.go_down(root, &mut path) {
             Ok(Way::Known(by_mover)) => Ok(Some(by_mover)),
             Ok(Way::New(_)) => Ok(None),
             Err(stop) => Err(stop),
@@ -106,7 +109,7 @@ impl Search {
     /// If the player to move is known to win, looks for a stone of his that is known to win too, by
     /// entering at most `budget` of the states after one on a cell of his narrowest entry. It
     /// answers how many it entered.
-    pub fn look_for_stone(&mut self, alloc: Global, state: &State, budget: u64) -> Result<u64, Stop>
+    pub fn look_for_stone(&mut self, state: &State, budget: u64) -> Result<u64, FinderStop>
         ensures within { IfOk result (λ entered. entered ≤ budget) }
     {
         let key = state.own_key(Kind::Semi);
@@ -123,7 +126,7 @@ impl Search {
                 return Ok(entered);
             };
             rest = rest.without(cell);
-            self.enter(alloc, &state.after(cell))?;
+            self.enter(&state.after(cell))?;
             if self.after_stone(state, cell).is_some() {
                 return Ok(entered + 1);
             }
@@ -134,15 +137,14 @@ impl Search {
     // Enters the next state, unless it is known whether the player to move wins.
     fn enter_next(
         &mut self,
-        alloc: Global,
         root: &State,
         path: &mut Vec<State>,
-    ) -> Result<Option<bool>, Stop> {
-        match self.go_down(alloc, root, path)? {
+    ) -> Result<Option<bool>, FinderStop> {
+        match self.go_down(root, path)? {
             Way::Known(by_mover) => Ok(Some(by_mover)),
             Way::New(state) => {
-                self.enter(alloc, &state)?;
-                self.up(alloc, path)?;
+                self.enter(&state)?;
+                self.up(path)?;
                 Ok(None)
             }
         }
@@ -150,18 +152,18 @@ impl Search {
 
     // Rounds until the path leads to a state that is new, or it is known whether the player to move
     // wins. One that meets no new state decides a node, so there are at most as many.
-    fn go_down(&mut self, alloc: Global, root: &State, path: &mut Vec<State>) -> Result<Way, Stop> {
+    fn go_down(&mut self, root: &State, path: &mut Vec<State>) -> Result<Way, FinderStop> {
         for _round in 0..MOST_NODES {
             if let Some(by_mover) = self.known(root) {
                 return Ok(Way::Known(by_mover));
             }
             path.clear();
-            if let Some(state) = self.down(alloc, root, path)? {
+            if let Some(state) = self.down(root, path)? {
                 return Ok(Way::New(state));
             }
-            self.up(alloc, path)?;
+            self.up(path)?;
         }
-        Err(Stop::NoWay)
+        Err(FinderStop::NoWay)
     }
 
     // Whether the player to move wins, if an entry says so.
@@ -184,23 +186,18 @@ impl Search {
     }
 
     // The path down from the root, to a state that is decided or new: this state, if it is new.
-    fn down(
-        &mut self,
-        alloc: Global,
-        root: &State,
-        path: &mut Vec<State>,
-    ) -> Result<Option<State>, Stop> {
+    fn down(&mut self, root: &State, path: &mut Vec<State>) -> Result<Option<State>, FinderStop> {
         let mut state = *root;
         for _depth in 0..MOST_CELLS {
             path.push(state)?;
-            if self.settle(alloc, &state)? {
+            if self.settle(&state)? {
                 return Ok(None);
             }
-            let Some(place) = self.nodes.find(&state.board) else {
+            let Some(node) = self.nodes.get(&key_of(&state.board)) else {
                 return Ok(Some(state));
             };
-            let (_effort, Some(cell)) = self.weigh(&state, place) else {
-                return Err(Stop::NoWay);
+            let (_effort, Some(cell)) = self.weigh(&state, node) else {
+                return Err(FinderStop::NoWay);
             };
             state = state.after(cell);
         }
@@ -208,71 +205,58 @@ impl Search {
     }
 
     // Back up the path.
-    fn up(&mut self, alloc: Global, path: &[State]) -> Result<(), Stop> {
+    fn up(&mut self, path: &[State]) -> Result<(), FinderStop> {
         for state in path.iter().rev() {
-            if !self.settle(alloc, state)?
-                && let Some(place) = self.nodes.find(&state.board)
+            if !self.settle(state)?
+                && let Some(node) = self.nodes.get(&key_of(&state.board))
             {
-                let (effort, _cell) = self.weigh(state, place);
-                self.nodes.set_effort(place, effort);
+                let (effort, _cell) = self.weigh(state, node);
+                self.set_effort(state, effort);
             }
         }
         Ok(())
     }
 
     // Whether it is known who wins; if so, the effort is set.
-    fn settle(&mut self, alloc: Global, state: &State) -> Result<bool, Stop> {
-        let place = self.nodes.find(&state.board);
-        let decided = self.winner(alloc, state, place)?;
-        if let Some(by_mover) = decided
-            && let Some(place) = place
-        {
-            self.nodes.set_effort(place, Effort::decided(by_mover));
+    fn settle(&mut self, state: &State) -> Result<bool, FinderStop> {
+        let decided = self.winner(state)?;
+        if let Some(by_mover) = decided {
+            self.set_effort(state, Effort::decided(by_mover));
         }
         Ok(decided.is_some())
     }
 
-    // Whether the player to move wins, if that follows from what is known by one step.
-    fn winner(
-        &mut self,
-        alloc: Global,
-        state: &State,
-        place: Option<usize>,
-    ) -> Result<Option<bool>, Stop> {
-        if let Some(by_mover) = self.known(state) {
-            return Ok(Some(by_mover));
-        }
-        if self.replies(state).is_empty() {
-            let key = state.other_key(Kind::Semi);
-            self.put_cases(alloc, &key, state.board.empties())?;
-            return Ok(Some(false));
-        }
-        match place {
-            Some(place) => self.win_by_stone(alloc, state, place),
-            None => Ok(None),
+    // Sets the effort of a state, if it is a node.
+    fn set_effort(&mut self, state: &State, effort: Effort) {
+        if let Some(node) = self.nodes.get_mut(&key_of(&state.board)) {
+            node.effort = effort;
         }
     }
 
-    // Whether a stone of the mover's is known to win; if so, his semi entry by it is put. If none
-    // is known to, it is that by the first stone after which no reply is left.
-    fn win_by_stone(
-        &mut self,
-        alloc: Global,
-        state: &State,
-        place: usize,
-    ) -> Result<Option<bool>, Stop> {
-        let replies = self.replies(state);
-        if let Some(entry) = self.winning_stone(state, place, replies) {
-            self.tables.put(&state.own_key(Kind::Semi), &entry)?;
-            return Ok(Some(true));
+    // Whether the player to move wins, if that follows from what is known by one step: by a stone
+    // after which he is known to win, or if there is none by the first after which no reply is
+    // left.
+    fn winner(&mut self, state: &State) -> Result<Option<bool>, FinderStop> {
+        let known = self.known(state);
+        if known.is_some() {
+            return Ok(known);
         }
-        let unanswered = cells_of(replies).find(|cell| self.replies_after(state, *cell).is_empty());
-        let Some(cell) = unanswered else {
+        let replies = self.replies(state);
+        if replies.is_empty() {
+            self.put_cases(state)?;
+            return Ok(Some(false));
+        }
+        let Some(node) = self.nodes.get(&key_of(&state.board)) else {
             return Ok(None);
         };
-        let key = state.key_after(Kind::Semi, cell);
-        self.put_cases(alloc, &key, state.board.empties().without(cell))?;
-        let Some(entry) = self.after_stone(state, cell) else {
+        let mut entry = self.winning_stone(state, node, replies);
+        if entry.is_none()
+            && let Some(cell) = self.unanswered(state, replies)
+        {
+            self.put_cases(&state.after(cell))?;
+            entry = self.after_stone(state, cell);
+        }
+        let Some(entry) = entry else {
             return Ok(None);
         };
         self.tables.put(&state.own_key(Kind::Semi), &entry)?;
@@ -281,21 +265,31 @@ impl Search {
 
     // The semi entry of the mover by a stone after which he is known to win, that with the fewest
     // cells.
-    fn winning_stone(&self, state: &State, place: usize, replies: CellSet) -> Option<EdgeEntry> {
-        let mut best: Option<EdgeEntry> = None;
-        for cell in self.nodes.cells(place) {
-            if replies.has(*cell) {
-                best = narrower(best, self.after_stone(state, *cell));
-            }
-        }
-        best
+    fn winning_stone(
+        &self,
+        state: &State,
+        node: &ScoutNode,
+        replies: CellSet,
+    ) -> Option<EdgeEntry> {
+        let cells = node.cells.iter().copied();
+        cells
+            .filter(|cell| replies.has(*cell))
+            .filter_map(|cell| self.after_stone(state, cell))
+            .min_by_key(|entry| entry.amount(Measure::Cells))
+    }
+
+    // The first of these cells such that a stone of the mover's there leaves no reply.
+    fn unanswered(&self, state: &State, cells: CellSet) -> Option<Cell> {
+        cells_of(cells).find(|cell| self.replies(&state.after(*cell)).is_empty())
     }
 
     // The semi entry of the mover by a stone on this cell, if he is known to win then.
     fn after_stone(&self, state: &State, cell: Cell) -> Option<EdgeEntry> {
-        let key = state.key_after(Kind::Full, cell);
-        let region = state.board.empties().without(cell);
-        let entry = self.tables.least(&key, region, Measure::Cells)?;
+        let next = state.after(cell);
+        let key = next.other_key(Kind::Full);
+        let entry = self
+            .tables
+            .least(&key, next.board.empties(), Measure::Cells)?;
         Some(EdgeEntry {
             carrier: entry.carrier.with(cell),
             lines: entry.lines.saturating_add(2),
@@ -303,30 +297,21 @@ impl Search {
         })
     }
 
-    // The replies that are left after the mover's stone on the cell.
-    fn replies_after(&self, state: &State, cell: Cell) -> CellSet {
-        let key = state.key_after(Kind::Semi, cell);
-        self.tables
-            .common(&key, state.board.empties().without(cell))
-    }
-
-    // Puts a full entry by cases, since the semi entries of the key in this region leave no reply.
-    fn put_cases(&mut self, alloc: Global, semi: &Key, region: CellSet) -> Result<(), Stop> {
-        let list = choices_of(alloc, &self.tables.list(alloc, semi, region)?)?;
-        let chosen = cover(alloc, &list, region, Saving::Cells)?;
+    // Puts a full entry of the other player's by cases, since his semi ones leave no reply.
+    fn put_cases(&mut self, state: &State) -> Result<(), FinderStop> {
+        let region = state.board.empties();
+        let semis = self
+            .tables
+            .list(self.alloc, &state.other_key(Kind::Semi), region)?;
+        let list = choices_of(self.alloc, &semis)?;
+        let chosen = cover(self.alloc, &list, region, Saving::Cells)?;
         let (carrier, lines) = together(&list, &chosen);
-        let full = Key {
-            kind: Kind::Full,
-            ..*semi
+        let entry = EdgeEntry {
+            carrier,
+            lines,
+            origin: Origin::Cases,
         };
-        self.tables.put(
-            &full,
-            &EdgeEntry {
-                carrier,
-                lines,
-                origin: Origin::Cases,
-            },
-        )
+        self.tables.put(&state.other_key(Kind::Full), &entry)
     }
 
     // The effort of a node, by those after the first of its cells that are left, and the best of
@@ -334,13 +319,13 @@ impl Search {
     //
     // To lose takes the greatest of the cells' proofs, and one more for each other cell: they share
     // what is to be shown, which a sum would count many times.
-    fn weigh(&self, state: &State, place: usize) -> (Effort, Option<Cell>) {
+    fn weigh(&self, state: &State, node: &ScoutNode) -> (Effort, Option<Cell>) {
         let replies = self.replies(state);
         let focus = self.order.focus(replies.count());
         let mut proof = NEVER - 1;
         let mut disproof = 0u32;
         let mut best = None;
-        let cells = self.nodes.cells(place).iter().copied();
+        let cells = node.cells.iter().copied();
         for cell in cells.filter(|cell| replies.has(*cell)).take(focus as usize) {
             let effort = self.child_effort(state, cell);
             disproof = disproof.max(effort.proof);
@@ -359,48 +344,39 @@ impl Search {
 
     // The effort after a stone on the cell.
     fn child_effort(&self, state: &State, cell: Cell) -> Effort {
-        match self.nodes.find(&state.after(cell).board) {
-            Some(place) => self.nodes.effort(place),
+        let next = state.after(cell);
+        match self.nodes.get(&key_of(&next.board)) {
+            Some(node) => node.effort,
             None => Effort {
                 proof: 1,
-                disproof: self.order.fresh(self.replies_after(state, cell).count()),
+                disproof: self.order.fresh(self.replies(&next).count()),
             },
         }
     }
 
     // Enters a state: looks at the mover's report, and if that doesn't end it at the other's, and
     // makes a node of it if these don't.
-    fn enter(&mut self, alloc: Global, state: &State) -> Result<(), Stop> {
+    fn enter(&mut self, state: &State) -> Result<(), FinderStop> {
         if self.reporters.report_mover(state, &mut self.tables)? {
             return Ok(());
         }
         self.reporters.report_other(state, &mut self.tables)?;
-        if self.settle(alloc, state)? {
+        if self.settle(state)? {
             return Ok(());
         }
-        let mut currents = Currents::none();
-        self.reporters
-            .put_currents(state.board.empties(), &mut currents);
-        let chance = self.nodes.count() as u64;
-        let replies = self.replies(state);
-        let cells = self.order.sorted(alloc, replies, &currents, chance)?;
-        self.nodes.put(&state.board, &cells)
-    }
-}
-
-// The one with fewer cells, and of as many with fewer lines.
-fn narrower(one: Option<EdgeEntry>, other: Option<EdgeEntry>) -> Option<EdgeEntry> {
-    if width(&other) < width(&one) {
-        other
-    } else {
-        one
-    }
-}
-
-// What makes an entry wide: its cells first. None is widest.
-fn width(entry: &Option<EdgeEntry>) -> u64 {
-    match entry {
-        Some(entry) => entry.amount(Measure::Cells),
-        None => u64::MAX,
+        if MOST_NODES <= self.nodes.len() {
+            return Err(FinderStop::Full);
+        }
+        let (mover, other) = self.reporters.currents();
+        let (replies, chance) = (self.replies(state), self.nodes.len() as u64);
+        let node = ScoutNode {
+            effort: Effort {
+                proof: 1,
+                disproof: 1,
+            },
+            cells: (self.order).sorted(self.alloc, replies, &mover, &other, chance)?,
+        };
+        self.nodes.insert(key_of(&state.board), node)?;
+        Ok(())
     }
 }

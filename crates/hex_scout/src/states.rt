@@ -27,29 +27,19 @@ impl State {
 
     /// The key of the mover's entries of a kind.
     pub(crate) fn own_key(&self, kind: Kind) -> Key {
-        Key {
-            player: self.mover,
-            kind,
-            stones: self.board.stones(self.mover),
-        }
+        self.key(self.mover, kind)
     }
 
     /// The key of the other player's entries of a kind.
     pub(crate) fn other_key(&self, kind: Kind) -> Key {
-        let player = self.mover.other();
+        self.key(self.mover.other(), kind)
+    }
+
+    fn key(&self, player: Colour, kind: Kind) -> Key {
         Key {
             player,
             kind,
             stones: self.board.stones(player),
-        }
-    }
-
-    /// The key of the mover's full entries after a stone of his on the cell.
-    pub(crate) fn key_after(&self, kind: Kind, cell: Cell) -> Key {
-        Key {
-            player: self.mover,
-            kind,
-            stones: self.board.stones(self.mover).with(cell),
         }
     }
 }
