@@ -24,7 +24,7 @@ use Rattle.hex_solve.specs.declared.ledgers.Mark.{Mark}
 use Rattle.hex_solve.proofs.LedgerLaws.{counts_on, grows_on}
 use Rattle.hex_cells.proofs.ColourLaws.{other_back}
 use Rattle.hex_solve.proofs.Growing.{grows_wider}
-use Rattle.hex_solve.proofs.NextNeed.{lines_after}
+use Rattle.hex_solve.proofs.NextPositions.{lines_after}
 use Rattle.hex_solve.proofs.Trying.{IsTrying, trying_on}
 use Rattle.hex_solve.proofs.TryingEnds.{trying_done, trying_spent, trying_won}
 

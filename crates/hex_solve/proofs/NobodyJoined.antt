@@ -7,7 +7,7 @@ use Rattle.hex_cells.specs.declared.colours.Colour.TheVariants.{Black, White}
 use Rattle.hex_board.specs.Joined.{is_joined, winner_of}
 use Rattle.hex_board.specs.Positions.{Position, stones_of}
 use Rattle.hex_solve.specs.Deciding.{first, lines_needed, positions_needed}
-use Rattle.hex_solve.proofs.NextNeed.{first_joined, lines_joined}
+use Rattle.hex_solve.proofs.NextPositions.{first_joined, lines_joined}
 
 nobody_by : (b w : Bool) → b ≡ false → w ≡ false
     → (if b then Some Black else (if w then Some White else None)) ≡ None

@@ -27,8 +27,8 @@ use Rattle.hex_solve.specs.PlainSearch.{IsPairOfLedgers, tree_lines}
 use Rattle.win_cert.specs.Showing.{Keeps}
 use Rattle.hex_cells.proofs.ColourLaws.{other_back}
 use Rattle.hex_solve.proofs.LedgerLaws.{counts_on, grows_none, grows_on}
-use Rattle.hex_solve.proofs.NextNeed.{for_other, lines_after, lines_lost, needed_after, need_next}
-use Rattle.hex_solve.proofs.NextNeed.{wins_by}
+use Rattle.hex_solve.proofs.NextPositions.{for_other, lines_after, lines_lost, positions_after, positions_next}
+use Rattle.hex_solve.proofs.NextPositions.{wins_by}
 use Rattle.hex_solve.proofs.Sums.{sum_cells, sum_least}
 use Rattle.win_cert.proofs.Reaching.{keeps_on}
 use Rattle.hex_solve.proofs.Growing.{among_left, among_last, answers_more, answers_on, grows_wider}
@@ -68,7 +68,7 @@ pub record IsTrying (p : Position) (mover : Colour) (own first_other other : Led
   pub grows : GrowsBy (2 * (most - left)) first_other other
   pub spent : left ≤ most
   pub sum : positions_needed p mover + left ≡ most + 1 + sum_up_to (has cells) (wins_by p mover)
-      (needed_after p mover) (cells_of p.size)
+      (positions_after p mover) (cells_of p.size)
   pub tried : List ℕ
   pub answers : AreAnswers other p numbers tried
   pub all : (k : ℕ) → is_empty_at p k ≡ true → IsAmong k tried ⊎ (has cells k ≡ true)
@@ -96,12 +96,12 @@ pub trying_begun : (p : Position) (mover : Colour) (own other : LedgerData) (lef
     → IsTrying p mover own other other left left [] cells
 trying_begun p mover own other left cells k s a h e =
     let (n, c) = some_fewer p k h in
-    let q : positions_needed p mover ≡ 1 + sum_up_to (is_empty_at p) (wins_by p mover) (needed_after p mover)
-    (cells_of p.size) = need_next p mover n (nobody p mover s.unjoined a) c in
-    let r : sum_up_to (is_empty_at p) (wins_by p mover) (needed_after p mover)
-    (cells_of p.size) ≡ sum_up_to (has cells) (wins_by p mover) (needed_after p mover)
+    let q : positions_needed p mover ≡ 1 + sum_up_to (is_empty_at p) (wins_by p mover) (positions_after p mover)
+    (cells_of p.size) = positions_next p mover n (nobody p mover s.unjoined a) c in
+    let r : sum_up_to (is_empty_at p) (wins_by p mover) (positions_after p mover)
+    (cells_of p.size) ≡ sum_up_to (has cells) (wins_by p mover) (positions_after p mover)
     (cells_of p.size) =
-    sum_cells (is_empty_at p) (has cells) (wins_by p mover) (needed_after p mover) 0 (p.size * p.size)
+    sum_cells (is_empty_at p) (has cells) (wins_by p mover) (positions_after p mover) 0 (p.size * p.size)
     (λ j l. sym (e j)) in
     let none : 0 ≡ 2 * (left - left) = omega arith in
     record {
@@ -163,10 +163,10 @@ trying_on p mover own start other next most left rest numbers cells k i w h n l 
     let q = placed p mover k in
     let here : is_empty_at p k ≡ true = w.inside k h in
     let m : ℕ = positions_needed q (other_of mover) in
-    let fell : sum_up_to (has cells) (wins_by p mover) (needed_after p mover)
+    let fell : sum_up_to (has cells) (wins_by p mover) (positions_after p mover)
     (cells_of p.size) ≡ m + sum_up_to (has (without_cell cells k)) (wins_by p mover)
-    (needed_after p mover) (cells_of p.size) =
-    sum_here p mover (needed_after p mover) cells k here h n
+    (positions_after p mover) (cells_of p.size) =
+    sum_here p mover (positions_after p mover) cells k here h n
     ∙ picked_no (wins_by p mover k) m _ (ap (is_for mover) f ∙ for_other mover) in
     let fell_to : (c : Colour) → sum_left p mover cells (lines_after c p mover)
     ≡ lines_after c p mover k + sum_left p mover (without_cell cells k)

@@ -15,13 +15,13 @@ use Rattle.hex_solve.specs.Deciding.{first, is_for, lines_needed, positions_need
 use Rattle.hex_solve.specs.Ledgers.{AnswerAll, CountsBy, GrowsBy, LedgerData, count_of}
 use Rattle.hex_solve.specs.PlainSearch.{tree_lines}
 use Rattle.hex_cells.proofs.ColourLaws.{other_back}
-use Rattle.hex_solve.proofs.NextNeed.{first_other, first_own, lines_after, lines_next, needed_after}
-use Rattle.hex_solve.proofs.NextNeed.{wins_by}
+use Rattle.hex_solve.proofs.NextPositions.{first_other, first_own, lines_after, lines_next, positions_after}
+use Rattle.hex_solve.proofs.NextPositions.{wins_by}
 use Rattle.hex_solve.proofs.Sums.{sum_none}
 use Rattle.hex_solve.proofs.Growing.{grows_wider}
 use Rattle.hex_solve.proofs.NobodyJoined.{nobody}
 use Rattle.hex_solve.proofs.Trying.{IsTrying, some_fewer, sum_here, sum_left, picked_yes}
-use Rattle.hex_solve.proofs.NextNeed.{for_own}
+use Rattle.hex_solve.proofs.NextPositions.{for_own}
 
 -- the mover wins after a stone on the least cell
 pub record Winning (p : Position) (mover : Colour) (most rest m lines : ℕ) : Type 0 where
@@ -43,8 +43,8 @@ trying_won p mover own start other most left rest numbers cells k w a h n r f =
     let here : is_empty_at p k ≡ true = w.inside k h in
     let m : ℕ = positions_needed q (other_of mover) in
     let mine : first q (other_of mover) ≡ Some mover = f ∙ ap Some (other_back mover) in
-    let fell : sum_up_to (has cells) (wins_by p mover) (needed_after p mover) (cells_of p.size) ≡ m =
-    sum_here p mover (needed_after p mover) cells k here h n
+    let fell : sum_up_to (has cells) (wins_by p mover) (positions_after p mover) (cells_of p.size) ≡ m =
+    sum_here p mover (positions_after p mover) cells k here h n
     ∙ picked_yes (wins_by p mover k) m _ (ap (is_for mover) mine ∙ for_own mover) in
     let (c, e) = some_fewer p k here in
     let won = first_own p mover c k (nobody p mover w.searched.unjoined a) e here mine in
@@ -77,7 +77,7 @@ pub trying_spent : (p : Position) (mover : Colour) (own start other : LedgerData
 trying_spent p mover own start other most left numbers cells k w h n l =
     let m : ℕ = positions_needed (placed p mover k) (other_of mover) in
     let here : is_empty_at p k ≡ true = w.inside k h in
-    let fell = sum_here p mover (needed_after p mover) cells k here h n in
+    let fell = sum_here p mover (positions_after p mover) cells k here h n in
     over (positions_needed p mover) left m most _ w.sum
     (subst (λ v. m ≤ v) (sym fell) (at_least (wins_by p mover k) m _)) l
   where
@@ -109,8 +109,8 @@ pub trying_done : (p : Position) (mover : Colour) (own start other : LedgerData)
     → Losing p mover start other most left numbers
 trying_done p mover own start other most left numbers cells k w a h n =
     let (c, e) = some_fewer p k h in
-    let none : sum_up_to (has cells) (wins_by p mover) (needed_after p mover) (cells_of p.size) ≡ 0
-    = sum_none (has cells) (wins_by p mover) (needed_after p mover) 0 (p.size * p.size) n in
+    let none : sum_up_to (has cells) (wins_by p mover) (positions_after p mover) (cells_of p.size) ≡ 0
+    = sum_none (has cells) (wins_by p mover) (positions_after p mover) 0 (p.size * p.size) n in
     let entered : left + positions_needed p mover ≡ most + 1
     = all_entered (positions_needed p mover) left most _ w.sum none in
     let lost = first_other p mover c k (nobody p mover w.searched.unjoined a) e h

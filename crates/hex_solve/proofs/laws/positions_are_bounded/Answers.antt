@@ -1,5 +1,5 @@
-use Rattle.hex_solve.proofs.NeedBound.{bound_of_four, need_most}
+use Rattle.hex_solve.proofs.PositionsBound.{bound_of_four, positions_most}
 use Rattle.hex_solve.proofs.laws.positions_are_bounded.Goals as goal
 
 pub returns : goal.returns
-returns c = record { bounded = need_most; of_four = bound_of_four }
+returns c = record { bounded = positions_most; of_four = bound_of_four }
