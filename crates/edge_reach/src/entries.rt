@@ -1,7 +1,6 @@
 //! Entries: connections of two elements.
 
 ghost use Rattle.std.specs.Prelude.{◌≡◌, ◌↔◌, ◌≤◌, IsTrue};
-ghost use Rattle.edge_reach.specs.declared.entries.State.{State};
 
 use conn_store::Kind;
 use hex_cells::CellSet;
@@ -26,17 +25,6 @@ pub enum Cause {
     OrMany(usize, usize),
 }
 
-/// What becomes of an entry.
-#[derive(Clone, Copy, Debug, PartialEq, Eq)]
-pub(crate) enum State {
-    /// It is not yet combined with others.
-    Waiting,
-    /// It is.
-    Taken,
-    /// A narrower one stands in its place.
-    GivenUp,
-}
-
 /// A connection of two elements.
 #[derive(Clone, Copy, Debug, PartialEq, Eq)]
 pub struct Entry {
@@ -46,13 +34,12 @@ pub struct Entry {
     pub y: u8,
     pub carrier: CellSet,
     pub cause: Cause,
-    pub(crate) state: State,
     /// The lines of its derivation, those that it uses twice counted twice, if lines are counted.
     pub lines: u32,
 }
 
 impl Entry {
-    /// An entry that waits.
+    /// An entry whose lines aren't counted.
     #[inline(always)]
     pub(crate) fn of(kind: Kind, x: u8, y: u8, carrier: CellSet, cause: Cause) -> Entry
         ensures ordered { result.x ≤ result.y }
@@ -65,7 +52,6 @@ impl Entry {
             y,
             carrier,
             cause,
-            state: State::Waiting,
             lines: 0,
         }
     }
@@ -76,13 +62,6 @@ impl Entry {
         ensures { IsTrue result ↔ (self.now.x ≡ 0) × (self.now.y ≡ 1) }
     {
         self.x == 0 && self.y == 1
-    }
-
-    /// Whether a narrower one stands in its place.
-    pub fn is_given_up(&self) -> bool
-        ensures { IsTrue result ↔ self.now.state ≡ State.GivenUp }
-    {
-        self.state == State::GivenUp
     }
 }
 
@@ -105,5 +84,23 @@ impl Cause {
             Cause::And(i, j) | Cause::Key(i, j) | Cause::Or2(i, j) => [Some(i), Some(j), None],
             Cause::Or3(i, j, k) => [Some(i), Some(j), Some(k)],
         }
+    }
+}
+
+/// What becomes of an entry.
+#[derive(Clone, Copy, Debug, PartialEq, Eq)]
+pub(crate) enum State {
+    /// It is not yet combined with others.
+    Waiting,
+    /// It is.
+    Taken,
+    /// A narrower one stands in its place.
+    GivenUp,
+}
+
+/// Gives up the entry with this number.
+pub(crate) fn give_up(states: &mut [State], number: u32) {
+    if let Some(state) = states.get_mut(number as usize) {
+        *state = State::GivenUp;
     }
 }

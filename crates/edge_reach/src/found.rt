@@ -3,8 +3,8 @@
 ghost use Rattle.std.specs.Prelude.{◌≡◌};
 ghost use Rattle.edge_reach.specs.Reports.{edge_numbers};
 
-use super::entries::{Cause, Entry, State};
-use super::held::{Held, MOST_FULL, MOST_SEMI, give_up};
+use super::entries::{Cause, Entry, State, give_up};
+use super::held::{Held, MOST_FULL, MOST_SEMI};
 use super::queues::Queue;
 use conn_store::Kind;
 use hex_cells::{CellSet, Size};
@@ -31,6 +31,8 @@ const MOST_LINES: u32 = 1 << 28;
 pub(crate) struct Found {
     limits: Limits,
     entries: Vec<Entry>,
+    // What became of each. These stand apart, since most are read without their entries.
+    states: Vec<State>,
     // The premises of the entries that have four or more, one list behind another.
     many: Vec<u32>,
     fulls: Held,
@@ -56,11 +58,12 @@ impl Found {
         let elements = size.cells() as usize + 2;
         let pairs = elements * (elements - 1) / 2;
         let queue = Queue::make(alloc)?;
-        let fulls = Held::make(alloc, pairs, limits.full.min(MOST_FULL))?;
-        let semis = Held::make(alloc, pairs, limits.semi.min(MOST_SEMI))?;
+        let fulls = Held::make(alloc, size, pairs, limits.full.min(MOST_FULL))?;
+        let semis = Held::make(alloc, size, pairs, limits.semi.min(MOST_SEMI))?;
         Ok(Found {
             limits,
             entries: Vec::new(alloc),
+            states: Vec::new(alloc),
             many: Vec::new(alloc),
             fulls,
             semis,
@@ -76,6 +79,7 @@ impl Found {
         self.fulls.clear();
         self.semis.clear();
         self.entries.clear();
+        self.states.clear();
         self.many.clear();
         self.queue.clear();
         self.edge_full.clear();
@@ -136,32 +140,21 @@ impl Found {
     /// Whether the entry was combined with others.
     #[inline(always)]
     pub(crate) fn is_taken(&self, number: u32) -> bool {
-        let entry = self.entries.get(number as usize);
-        entry.is_some_and(|entry| entry.state == State::Taken)
+        matches!(self.states.get(number as usize), Some(State::Taken))
     }
 
-    /// Takes the next entry that waits; `None` if none does.
-    pub(crate) fn take(&mut self) -> Option<(u32, Entry)> {
+    /// Takes the next entry that waits: its number. `None` if none does.
+    pub(crate) fn take(&mut self) -> Option<u32> {
         for _given_up in 0..u32::MAX {
             let number = self.queue.take()?;
-            if let Some(entry) = self.entries.get_mut(number as usize)
-                && entry.state == State::Waiting
+            if let Some(state) = self.states.get_mut(number as usize)
+                && *state == State::Waiting
             {
-                entry.state = State::Taken;
-                return Some((number, *entry));
+                *state = State::Taken;
+                return Some(number);
             }
         }
         None
-    }
-
-    /// Adds an entry, unless there is a narrower one or too many.
-    #[inline(always)]
-    pub(crate) fn add(&mut self, entry: Entry) -> Result<(), AllocError> {
-        match entry.kind {
-            Kind::Full => self.add_full(entry),
-            Kind::Semi if entry.is_between_edges() => self.add_edge_semi(entry),
-            Kind::Semi => self.add_semi(entry),
-        }
     }
 
     /// Adds a full entry by four or more semi ones of its elements.
@@ -177,15 +170,19 @@ impl Found {
         self.add_full(Entry::of(Kind::Full, x, y, carrier, cause))
     }
 
-    fn add_full(&mut self, entry: Entry) -> Result<(), AllocError> {
+    /// Adds a full entry, unless there is a narrower one or too many.
+    pub(crate) fn add_full(&mut self, entry: Entry) -> Result<(), AllocError> {
         let (pair, carrier) = (pair_of(entry.x, entry.y), entry.carrier);
-        if let Some(narrower) = self.fulls.first_inside(pair, carrier) {
+        if let Some(place) = self.fulls.first_inside(pair, carrier) {
+            let narrower = self.fulls.at(pair, place);
             self.shorten(narrower, entry);
         } else if let Ok(number) = u32::try_from(self.entries.len())
-            && self.fulls.makes_room(pair, carrier, &mut self.entries)
+            && self.fulls.makes_room(pair, carrier, &mut self.states)
         {
             self.fulls.push(pair, carrier, number);
             if entry.is_between_edges() {
+                let states = &self.states;
+                self.edge_full.retain(|old| !is_given_up(states, *old));
                 self.edge_full.push(number)?;
             }
             self.enlist(entry, number)?;
@@ -193,13 +190,19 @@ impl Found {
         Ok(())
     }
 
-    fn add_semi(&mut self, entry: Entry) -> Result<(), AllocError> {
+    /// Adds a semi entry, unless there is a narrower one or too many.
+    #[inline(always)]
+    pub(crate) fn add_semi(&mut self, entry: Entry) -> Result<(), AllocError> {
+        if entry.is_between_edges() {
+            return self.add_edge_semi(entry);
+        }
         let (pair, carrier) = (pair_of(entry.x, entry.y), entry.carrier);
-        if let Some(narrower) = self.semis.first_inside(pair, carrier) {
+        if let Some(place) = self.semis.first_inside(pair, carrier) {
+            let narrower = self.semis.at(pair, place);
             self.shorten(narrower, entry);
         } else if self.fulls.first_inside(pair, carrier).is_none()
             && let Ok(number) = u32::try_from(self.entries.len())
-            && self.semis.makes_room(pair, carrier, &mut self.entries)
+            && self.semis.makes_room(pair, carrier, &mut self.states)
         {
             self.semis.push(pair, carrier, number);
             self.enlist(entry, number)?;
@@ -209,11 +212,12 @@ impl Found {
 
     fn add_edge_semi(&mut self, entry: Entry) -> Result<(), AllocError> {
         let carrier = entry.carrier;
-        if let Some(narrower) = first_inside(&self.edge_semi, &self.entries, carrier) {
+        let narrower = first_inside(&self.edge_semi, &self.entries, carrier);
+        if narrower.is_some() {
             self.shorten(narrower, entry);
             return Ok(());
         }
-        give_up_around(&mut self.edge_semi, &mut self.entries, carrier);
+        self.give_up_around(carrier);
         let has_room = self.edge_semi.len() < self.limits.edge_semi;
         if let Ok(number) = u32::try_from(self.entries.len())
             && (has_room || !self.common.inside(carrier))
@@ -225,6 +229,19 @@ impl Found {
         Ok(())
     }
 
+    // Gives up the semi entries between the edges around this carrier.
+    fn give_up_around(&mut self, carrier: CellSet) {
+        let (entries, states) = (&self.entries, &mut self.states);
+        self.edge_semi.retain(|number| {
+            let entry = entries.get(*number as usize);
+            let is_around = entry.is_some_and(|entry| carrier.inside(entry.carrier));
+            if is_around {
+                give_up(states, *number);
+            }
+            !is_around
+        });
+    }
+
     // Puts a new entry behind the others, to wait.
     #[inline(always)]
     fn enlist(&mut self, entry: Entry, number: u32) -> Result<(), AllocError> {
@@ -234,6 +251,7 @@ impl Found {
         }
         self.queue.put(entry.carrier.count(), number)?;
         self.entries.push(entry)?;
+        self.states.push(State::Waiting)?;
         Ok(())
     }
 
@@ -259,10 +277,13 @@ impl Found {
 
     // If this is the same entry, and lines are counted, gives it the shorter derivation.
     #[inline(always)]
-    fn shorten(&mut self, there: (CellSet, u32), entry: Entry) {
-        if self.limits.counts_lines && there.0 == entry.carrier {
+    fn shorten(&mut self, there: Option<(CellSet, u32)>, entry: Entry) {
+        if self.limits.counts_lines
+            && let Some((carrier, number)) = there
+            && carrier == entry.carrier
+        {
             let lines = self.lines_by(entry.cause);
-            if let Some(old) = self.entries.get_mut(there.1 as usize)
+            if let Some(old) = self.entries.get_mut(number as usize)
                 && lines < old.lines
             {
                 old.lines = lines;
@@ -280,14 +301,7 @@ fn first_inside(numbers: &[u32], entries: &[Entry], carrier: CellSet) -> Option<
     })
 }
 
-// Gives up those of these entries that lie around the carrier.
-fn give_up_around(numbers: &mut Vec<u32>, entries: &mut [Entry], carrier: CellSet) {
-    numbers.retain(|number| {
-        let entry = entries.get(*number as usize);
-        let is_around = entry.is_some_and(|entry| carrier.inside(entry.carrier));
-        if is_around {
-            give_up(entries, *number);
-        }
-        !is_around
-    });
+// Whether a narrower entry stands in this one's place.
+fn is_given_up(states: &[State], number: u32) -> bool {
+    matches!(states.get(number as usize), Some(State::GivenUp))
 }

@@ -1,7 +1,7 @@
 //! The entries of each pair of elements, of one kind.
 
-use super::entries::{Entry, State};
-use hex_cells::CellSet;
+use super::entries::{State, give_up};
+use hex_cells::{CellSet, MOST_CELLS, Size};
 use std::alloc::{AllocError, Global};
 
 /// The most full entries of a pair.
@@ -9,6 +9,9 @@ pub const MOST_FULL: usize = 12;
 
 /// The most semi entries of a pair.
 pub const MOST_SEMI: usize = 28;
+
+// The bits of a set's number from the 64th on.
+const HIGH_BITS: u32 = MOST_CELLS - u64::BITS;
 
 /// The carriers of each pair's entries, none inside another, and the entries' numbers.
 #[derive(Drop)]
@@ -18,21 +21,51 @@ pub(crate) struct Held {
     // How many are filled. These stand apart: of most pairs nothing else is read, and so they stay
     // in the processor's cache.
     counts: Vec<u8>,
-    carriers: Vec<CellSet>,
+    // The carriers' cells with numbers below 64, and those of the other cells. The latter list is
+    // empty if the board has none: up to size 8 a set is one word.
+    lows: Vec<u64>,
+    highs: Vec<u64>,
     numbers: Vec<u32>,
 }
 
+// The cells of a set with numbers below 64.
+#[inline(always)]
+fn low_of(set: CellSet) -> u64 {
+    (set.bits() % (1 << u64::BITS)) as u64
+}
+
+// Those of the other cells, as if their numbers were less by 64.
+#[inline(always)]
+fn high_of(set: CellSet) -> u64 {
+    (set.bits() >> u64::BITS) as u64
+}
+
+// The set with these cells.
+#[inline(always)]
+fn joined(low: u64, high: u64) -> CellSet {
+    let high = u128::from(high % (1 << HIGH_BITS));
+    CellSet::of_bits((high << u64::BITS) + u128::from(low))
+}
+
 impl Held {
-    /// No entries, and room for so many of each of these pairs.
-    pub(crate) fn make(alloc: Global, pairs: usize, most: usize) -> Result<Held, AllocError> {
+    /// No entries, and room for so many of each of these pairs on boards of this size.
+    pub(crate) fn make(
+        alloc: Global,
+        size: Size,
+        pairs: usize,
+        most: usize,
+    ) -> Result<Held, AllocError> {
         let places = pairs.saturating_mul(most);
+        let high_places = if size.cells() <= u64::BITS { 0 } else { places };
         let counts = vec![in alloc; 0u8; pairs]?;
-        let carriers = vec![in alloc; CellSet::none(); places]?;
+        let lows = vec![in alloc; 0u64; places]?;
+        let highs = vec![in alloc; 0u64; high_places]?;
         let numbers = vec![in alloc; 0u32; places]?;
         Ok(Held {
             most,
             counts,
-            carriers,
+            lows,
+            highs,
             numbers,
         })
     }
@@ -52,40 +85,45 @@ impl Held {
     #[inline(always)]
     pub(crate) fn at(&self, pair: usize, place: usize) -> Option<(CellSet, u32)> {
         let place = self.first_place(pair).saturating_add(place);
-        let carrier = self.carriers.get(place)?;
-        let number = self.numbers.get(place)?;
-        Some((*carrier, *number))
+        let low = *self.lows.get(place)?;
+        let high = self.highs.get(place).copied().unwrap_or(0);
+        Some((joined(low, high), *self.numbers.get(place)?))
     }
 
-    /// The first entry of a pair whose carrier lies inside this one.
+    /// The place of the first entry of a pair whose carrier lies inside this one.
     #[inline(always)]
-    pub(crate) fn first_inside(&self, pair: usize, carrier: CellSet) -> Option<(CellSet, u32)> {
+    pub(crate) fn first_inside(&self, pair: usize, carrier: CellSet) -> Option<usize> {
         let count = self.count(pair);
         if count == 0 {
             return None;
         }
         let first = self.first_place(pair);
-        let carriers = self.carriers.get(first..first.saturating_add(count))?;
-        for place in 0..carriers.len() {
-            if carriers[place].inside(carrier) {
-                return self.at(pair, place);
-            }
+        let end = first.saturating_add(count);
+        let outside = !low_of(carrier);
+        let lows = self.lows.get(first..end)?;
+        if self.highs.is_empty() {
+            return lows.iter().position(|low| low & outside == 0);
         }
-        None
+        let outside_high = !high_of(carrier);
+        let highs = self.highs.get(first..end)?;
+        let mut halves = lows.iter().zip(highs.iter());
+        halves.position(|(low, high)| low & outside == 0 && high & outside_high == 0)
     }
 
     // Gives up the entries of a pair around this carrier.
-    fn give_up_around(&mut self, pair: usize, carrier: CellSet, entries: &mut [Entry]) {
+    fn give_up_around(&mut self, pair: usize, carrier: CellSet, states: &mut [State]) {
         let count = self.count(pair);
         let mut kept = 0usize;
         for place in 0..count {
             if let Some((there, number)) = self.at(pair, place) {
                 if carrier.inside(there) {
-                    give_up(entries, number);
-                } else {
-                    self.put(pair, kept, there, number);
-                    kept = kept.saturating_add(1);
+                    give_up(states, number);
+                    continue;
                 }
+                if kept < place {
+                    self.put(pair, kept, there, number);
+                }
+                kept = kept.saturating_add(1);
             }
         }
         if kept < count {
@@ -99,9 +137,9 @@ impl Held {
         &mut self,
         pair: usize,
         carrier: CellSet,
-        entries: &mut [Entry],
+        states: &mut [State],
     ) -> bool {
-        self.give_up_around(pair, carrier, entries);
+        self.give_up_around(pair, carrier, states);
         let count = self.count(pair);
         if count < self.most {
             return true;
@@ -109,7 +147,7 @@ impl Held {
         let Some((widest, number)) = self.widest(pair, carrier.count()) else {
             return false;
         };
-        give_up(entries, number);
+        give_up(states, number);
         let last = count.saturating_sub(1);
         if let Some((carrier, number)) = self.at(pair, last) {
             self.put(pair, widest, carrier, number);
@@ -152,11 +190,14 @@ impl Held {
     #[inline(always)]
     fn put(&mut self, pair: usize, place: usize, carrier: CellSet, number: u32) {
         let place = self.first_place(pair).saturating_add(place);
-        if let Some(there) = self.carriers.get_mut(place)
+        if let Some(low) = self.lows.get_mut(place)
             && let Some(name) = self.numbers.get_mut(place)
         {
-            *there = carrier;
+            *low = low_of(carrier);
             *name = number;
+        }
+        if let Some(high) = self.highs.get_mut(place) {
+            *high = high_of(carrier);
         }
     }
 
@@ -165,12 +206,5 @@ impl Held {
         if let Some(count) = self.counts.get_mut(pair) {
             *count = u8::try_from(filled).unwrap_or(u8::MAX);
         }
-    }
-}
-
-/// Gives up the entry with this number.
-pub(crate) fn give_up(entries: &mut [Entry], number: u32) {
-    if let Some(entry) = entries.get_mut(number as usize) {
-        entry.state = State::GivenUp;
     }
 }

@@ -77,7 +77,7 @@ impl Reach {
         })
     }
 
-    /// The numbers of the entries between the edges, those that were given up among them.
+    /// The numbers of the entries between the edges.
     pub fn between_edges(&self, kind: Kind) -> &[u32]
         ensures { result.now ≡ report_numbers self.now kind }
     {
@@ -133,7 +133,10 @@ impl Reach {
             self.add_near(question, element)?;
         }
         for _taken in 0..u32::MAX {
-            let Some((number, entry)) = self.found.take() else {
+            let Some(number) = self.found.take() else {
+                return Ok(());
+            };
+            let Some(entry) = self.entry(number).copied() else {
                 return Ok(());
             };
             if self.is_enough(&entry, until) {
@@ -156,7 +159,7 @@ impl Reach {
             if near >> below & 1 == 1 {
                 let (x, y) = (below as u8, (element % MOST_ELEMENTS) as u8);
                 let entry = Entry::of(Kind::Full, x, y, CellSet::none(), Cause::Adjacent);
-                self.found.add(entry)?;
+                self.found.add_full(entry)?;
             }
         }
         Ok(())
@@ -214,15 +217,16 @@ impl Reach {
                 && !way.carrier.meets(entry.carrier.union(end_cell))
                 && !self.elements.alone(way.to as usize).meets(entry.carrier)
             {
-                let carrier = entry.carrier.union(way.carrier);
-                let joined = if between.is_empty() {
+                let carrier = entry.carrier.union(way.carrier).union(between);
+                if between.is_empty() {
                     let cause = Cause::And(number, way.number);
-                    Entry::of(Kind::Full, end, way.to, carrier, cause)
+                    let joined = Entry::of(Kind::Full, end, way.to, carrier, cause);
+                    self.found.add_full(joined)?;
                 } else {
                     let cause = Cause::Key(number, way.number);
-                    Entry::of(Kind::Semi, end, way.to, carrier.union(between), cause)
-                };
-                self.found.add(joined)?;
+                    let joined = Entry::of(Kind::Semi, end, way.to, carrier, cause);
+                    self.found.add_semi(joined)?;
+                }
             }
         }
         Ok(())
@@ -244,14 +248,14 @@ impl Reach {
             if common.is_empty() {
                 let cause = Cause::Or2(number, *second);
                 let united = Entry::of(Kind::Full, x, y, both, cause);
-                self.found.add(united)?;
+                self.found.add_full(united)?;
                 continue;
             }
             for (carrier, third) in self.others.iter().take(place) {
                 if !common.meets(*carrier) {
                     let cause = Cause::Or3(number, *second, *third);
                     let united = Entry::of(Kind::Full, x, y, both.union(*carrier), cause);
-                    self.found.add(united)?;
+                    self.found.add_full(united)?;
                 }
             }
         }

@@ -144,7 +144,6 @@ fn take_out(
     let mut places = vec![in alloc; 0usize; reach.count()]?;
     for number in reach.between_edges(kind).to_vec(alloc)? {
         if let Some(entry) = reach.entry(number).copied()
-            && !entry.is_given_up()
             && entry.carrier.inside(region)
         {
             list.push(Derivation {

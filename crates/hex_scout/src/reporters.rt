@@ -99,7 +99,6 @@ fn keep(
     for place in 0..reach.between_edges(kind).len() {
         if let Some(number) = reach.between_edges(kind).get(place).copied()
             && let Some(entry) = reach.entry(number).copied()
-            && !entry.is_given_up()
         {
             let lines = reach.derivation(number)?.len();
             let entry = EdgeEntry {
