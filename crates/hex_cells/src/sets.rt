@@ -29,12 +29,6 @@ impl Model for CellSet {
 }
 
 impl CellSet {
-    /// Does nothing: that a set has no cell from [`MOST_CELLS`] on is known after the call.
-    #[inline]
-    pub fn keeps(self)
-        ensures range { self < 2 ^ MOST_CELLS }
-    {}
-
     /// The set as a number: bit k is set exactly if cell k is in it.
     pub fn bits(self) -> u128
         ensures value { result ≡ self }
@@ -205,6 +199,12 @@ impl CellSet {
         let high = (self.bits >> u64::BITS) as u64;
         Cell::numbered(u64::BITS + place_in(high, k - in_low))
     }
+
+    /// Does nothing: that a set has no cell from [`MOST_CELLS`] on is known after the call.
+    #[inline]
+    pub fn keeps(self)
+        ensures range { self < 2 ^ MOST_CELLS }
+    {}
 
     // How many cells of the set have a number below `end`.
     fn below(self, end: u32) -> u32
