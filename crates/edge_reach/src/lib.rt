@@ -11,13 +11,13 @@
 //!
 //! **What is proved.** That each call is safe and ends, and what the calls that read a report
 //! answer of what it has (specs/Reports.antt): [`Reach::entry`] the entry with this number,
-//! [`Reach::count`] how many there are, [`Reach::between_edges`] the numbers that it keeps, and
-//! how [`Reach::end`] names the edges. Nothing of the entries themselves: whoever makes a
-//! certificate of them has it checked.
+//! [`Reach::count`] how many there are, [`Reach::between_edges`] the numbers that it keeps, and how
+//! [`Reach::end`] names the edges. Nothing of the entries themselves: whoever makes a certificate
+//! of them has it checked.
 //!
-//! **What is only tested, or not said.** That the entries are true, and how many are found; that a
-//! derivation has all premises, and which entry of [`cells_of`] is next. That none between the edges
-//! was given up. That currents are those of the circuit, up to what is rounded.
+//! **What is only tested, or not said.** That the entries are true, and how many are found; that
+//! none of those between the edges was given up; that a derivation has all premises, and which cell
+//! of [`cells_of`] is next. That currents are those of the circuit, up to what is rounded.
 //!
 //! **Limits.** Those that a [`Reach`] is made with ([`Limits`]), at most [`MOST_FULL`] full and
 //! [`MOST_SEMI`] semi entries of a pair. Memory is kept from report to report.

@@ -1,10 +1,10 @@
 //! The solver: who wins a position, with a certificate.
 //!
-//! **Nouns.** *First* of a position is the player who is told to win by trying each move. *Positions
-//! needed* are how many a search enters that tries the cells in rising order, and *bound* is the
-//! most that they can be with so many empty cells. *Lines needed* are how many lines a player's
-//! certificate by that search has. A *ledger* has the lines of a player's certificate while that
-//! search goes on.
+//! **Nouns.** *First* of a position is the player who is told to win by trying each move. The
+//! *positions needed* are those that a search enters that tries the cells in rising order, and
+//! *bound* is the most that they can be with so many empty cells. *Lines needed* are how many lines
+//! a player's certificate by that search has. A *ledger* has the lines of a player's certificate
+//! while that search goes on.
 //!
 //! **A caller** asks [`solve`] and takes its [`Solved`] apart:
 //!
