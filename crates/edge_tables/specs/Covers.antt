@@ -1,7 +1,7 @@
 -- Carriers with their lines, and what those at certain places have.
 use Rattle.std.specs.Prelude.{◌≡◌, ℕ, Bool, true, List, length, ◌<◌, All, IfSome}
-use Rattle.std.specs.Prelude.{slice_get, option_to_list, sum_by}
-use Rattle.std.specs.List.{flat_map, list_any}
+use Rattle.std.specs.Prelude.{slice_get, sum_by}
+use Rattle.std.specs.List.{filter_map, list_any}
 use Rattle.hex_cells.specs.Sets.{has}
 use Rattle.edge_tables.specs.declared.covers.Choice.{Choice}
 use Rattle.edge_tables.specs.declared.entries.EdgeEntry.{EdgeEntry}
@@ -12,7 +12,7 @@ entry_choice e = record { carrier = e.carrier; lines = e.lines }
 
 -- the choices at these places of a list
 abbrev pub choices_at : List Choice → List ℕ → List Choice
-choices_at list places = flat_map (λ p. option_to_list (slice_get list p)) places
+choices_at list places = filter_map (λ p. slice_get list p) places
 
 -- one of the carriers has cell k
 abbrev pub is_covered : List Choice → ℕ → Bool

@@ -1,11 +1,11 @@
 //! Covers: few carriers that have no cell in common, so that each stone of the opponent's is
 //! answered by one of them.
 
-ghost use Rattle.std.specs.Prelude.{◌≡◌, ◌≢◌, ℕ, ◌+◌, ◌-◌, ◌^◌, ◌<◌, map, min, length, remove};
-ghost use Rattle.std.specs.Prelude.{vec_len, IfOk, IfSome, IsTrue};
+ghost use Rattle.std.specs.Prelude.{◌≡◌, ◌≢◌, ℕ, ◌+◌, ◌-◌, ◌^◌, map, min, slice_get};
+ghost use Rattle.std.specs.Prelude.{vec_len, IfOk, IsTrue};
 ghost use Rattle.hex_cells.specs.Sets.{has};
-ghost use Rattle.edge_tables.specs.Covers.{ShareNoCell, IsCover, entry_choice, choices_at};
-ghost use Rattle.edge_tables.specs.Covers.{is_covered, line_sum};
+ghost use Rattle.edge_tables.specs.Covers.{IsCover, choices_at, entry_choice, is_covered};
+ghost use Rattle.edge_tables.specs.Covers.{line_sum};
 
 use super::entries::EdgeEntry;
 use hex_cells::CellSet;
@@ -15,7 +15,7 @@ use std::alloc::{AllocError, Global};
 const MOST_STARTS: usize = 24;
 
 /// The most carriers of a cover: a line of a certificate names at most 127.
-const MOST_CHOSEN: usize = 120;
+const MOST_CHOSEN: usize = 119;
 
 // What a carrier costs if few cells are wanted, in sixteenths: 1, 2 for each cell that it adds,
 // and the natural logarithm of its lines, which is 11 sixteenths of the binary one. By trial.
@@ -45,14 +45,13 @@ pub struct Choice {
 pub fn choices_of(alloc: Global, entries: &[EdgeEntry]) -> Result<Vec<Choice>, AllocError>
     ensures { IfOk result (λ list. list.items ≡ map entry_choice entries.now) }
 {
-    let mut list = Vec::new(alloc);
-    for entry in entries {
-        list.push(Choice {
+    entries
+        .iter()
+        .map(|entry| Choice {
             carrier: entry.carrier,
             lines: entry.lines,
-        })?;
-    }
-    Ok(list)
+        })
+        .collect(alloc)
 }
 
 /// The places of few of these carriers, two at least, that have no cell in common inside the
@@ -67,6 +66,9 @@ pub fn cover(
     ensures several { IfOk result (λ chosen. vec_len chosen ≢ 1) }
 {
     let mut best = Vec::new(alloc);
+    if !common_of(list, region).is_empty() {
+        return Ok(best);
+    }
     let mut least = u64::MAX;
     let starts = list.len().min(MOST_STARTS);
     for start in 0..starts + 1 {
@@ -74,12 +76,18 @@ pub fn cover(
         let mut chosen = chosen_from(alloc, list, region, saving, first)?;
         thin(list, region, &mut chosen);
         let cost = cost_of(list, &chosen, saving);
-        if 2 <= chosen.len() && cost < least {
+        if 2 <= chosen.len() && cost < least && are_apart(list, region, &chosen) {
             best = chosen;
             least = cost;
         }
     }
     Ok(best)
+}
+
+// The cells of the region that all carriers have in common: if there are any, there is no cover.
+fn common_of(list: &[Choice], region: CellSet) -> CellSet {
+    let carriers = list.iter().map(|choice| choice.carrier);
+    carriers.fold(region, |common, carrier| common.meet(carrier))
 }
 
 /// The cells of these carriers together, and a line more than they cost.
@@ -89,46 +97,47 @@ pub fn together(list: &[Choice], chosen: &[usize]) -> (CellSet, u32)
 {
     let mut union = CellSet::none();
     let mut lines = 1u32;
-    for place in chosen {
-        if let Some(choice) = list.get(*place) {
-            union = union.union(choice.carrier);
-            lines = lines.saturating_add(choice.lines);
-        }
+    for choice in chosen.iter().filter_map(|place| choice_at(list, *place)) {
+        union = union.union(choice.carrier);
+        lines = lines.saturating_add(choice.lines);
     }
     (union, lines)
 }
 
-// Carriers by greed, that at `first` before the others; none if they leave cells in common.
+// The choice at a place of the list.
+fn choice_at(list: &[Choice], place: usize) -> Option<Choice>
+    ensures { result ≡ slice_get list.now place }
+{
+    list.get(place).copied()
+}
+
+// Carriers by greed, that at `first` before the others, until no other takes a cell from those that
+// are left.
 fn chosen_from(
     alloc: Global,
     list: &[Choice],
     region: CellSet,
     saving: Saving,
     first: Option<usize>,
-) -> Result<Vec<usize>, AllocError>
-    ensures { IfOk result (λ chosen. IsCover list.now region chosen.items) }
-{
+) -> Result<Vec<usize>, AllocError> {
     let mut chosen = Vec::new(alloc);
     let mut left = region;
     let mut union = CellSet::none();
     let mut next = first;
     for _step in 0..MOST_CHOSEN {
-        let place = match next {
-            Some(place) => place,
-            None if left.is_empty() => return Ok(chosen),
-            None => match best_gain(list, left, union, saving) {
-                Some(place) => place,
-                None => return Ok(Vec::new(alloc)),
-            },
-        };
-        next = None;
+        let place = next.or_else(|| best_gain(list, left, union, saving));
+        let Some(place) = place else { break };
         if let Some(choice) = list.get(place) {
             chosen.push(place)?;
             left = left.meet(choice.carrier);
             union = union.union(choice.carrier);
         }
+        if left.is_empty() {
+            break;
+        }
+        next = None;
     }
-    Ok(Vec::new(alloc))
+    Ok(chosen)
 }
 
 // The place of the carrier that costs least for each cell that it takes from those that are left.
@@ -136,15 +145,13 @@ fn best_gain(list: &[Choice], left: CellSet, union: CellSet, saving: Saving) -> 
     let mut best = None;
     let mut best_gain = 0u64;
     let mut best_cost = 1u64;
-    for place in 0..list.len() {
-        if let Some(choice) = list.get(place) {
-            let gain = u64::from(left.minus(choice.carrier).count());
-            let cost = added_cost(choice, union, saving);
-            if cost.saturating_mul(best_gain) < best_cost.saturating_mul(gain) {
-                best = Some(place);
-                best_gain = gain;
-                best_cost = cost;
-            }
+    for (place, choice) in list.iter().enumerate() {
+        let gain = u64::from(left.minus(choice.carrier).count());
+        let cost = added_cost(choice, union, saving);
+        if cost.saturating_mul(best_gain) < best_cost.saturating_mul(gain) {
+            best = Some(place);
+            best_gain = gain;
+            best_cost = cost;
         }
     }
     best
@@ -163,9 +170,7 @@ fn added_cost(choice: &Choice, union: CellSet, saving: Saving) -> u64 {
 }
 
 // Takes away those that are not needed, that with the most lines first.
-fn thin(list: &[Choice], region: CellSet, chosen: &mut Vec<usize>)
-    ensures { IsCover list.now region chosen.old.items → IsCover list.now region chosen.new.items }
-{
+fn thin(list: &[Choice], region: CellSet, chosen: &mut Vec<usize>) {
     for _step in 0..MOST_CHOSEN {
         match longest_needless(list, region, chosen) {
             Some(place) if 2 < chosen.len() && place < chosen.len() => {
@@ -177,17 +182,11 @@ fn thin(list: &[Choice], region: CellSet, chosen: &mut Vec<usize>)
 }
 
 // The place, among those that are chosen, of the one with the most lines that is not needed.
-fn longest_needless(list: &[Choice], region: CellSet, chosen: &[usize]) -> Option<usize>
-    ensures { IfSome result (λ place. place < length chosen.now
-        → ShareNoCell list.now region (remove chosen.now place)) }
-{
+fn longest_needless(list: &[Choice], region: CellSet, chosen: &[usize]) -> Option<usize> {
     let mut best = None;
     let mut most = 0u32;
-    for place in 0..chosen.len() {
-        let lines = chosen
-            .get(place)
-            .and_then(|number| list.get(*number))
-            .map_or(0, |choice| choice.lines);
+    for (place, number) in chosen.iter().enumerate() {
+        let lines = list.get(*number).map_or(0, |choice| choice.lines);
         if (best.is_none() || most < lines) && is_needless(list, region, chosen, place) {
             best = Some(place);
             most = lines;
@@ -197,17 +196,28 @@ fn longest_needless(list: &[Choice], region: CellSet, chosen: &[usize]) -> Optio
 }
 
 // Whether the others have no cell in common.
-fn is_needless(list: &[Choice], region: CellSet, chosen: &[usize], needless: usize) -> bool
-    ensures { IsTrue result → needless < length chosen.now
-        → ShareNoCell list.now region (remove chosen.now needless) }
-{
+fn is_needless(list: &[Choice], region: CellSet, chosen: &[usize], needless: usize) -> bool {
     let mut left = region;
-    for place in 0..chosen.len() {
+    for (place, number) in chosen.iter().enumerate() {
         if place != needless
-            && let Some(number) = chosen.get(place)
             && let Some(choice) = list.get(*number)
         {
             left = left.meet(choice.carrier);
+        }
+    }
+    left.is_empty()
+}
+
+// Whether these are places of the list, whose carriers have no cell of the region in common. What
+// greed found is tested, so that nothing has to be proved of how it was found.
+fn are_apart(list: &[Choice], region: CellSet, chosen: &[usize]) -> bool
+    ensures { IsTrue result → IsCover list.now region chosen.now }
+{
+    let mut left = region;
+    for place in chosen {
+        match list.get(*place) {
+            Some(choice) => left = left.meet(choice.carrier),
+            None => return false,
         }
     }
     left.is_empty()

@@ -7,6 +7,7 @@ ghost use Rattle.edge_tables.specs.Entries.{newest_beside, with_lines_at};
 use conn_store::Kind;
 use hex_cells::{Cell, CellSet, Colour};
 use std::alloc::AllocError;
+use std::hash::{Hash, Hasher};
 
 /// Of whom an entry speaks: the player, who of the two may move first, and the player's stones.
 #[derive(Clone, Copy, Debug, PartialEq, Eq)]
@@ -14,6 +15,21 @@ pub struct Key {
     pub player: Colour,
     pub kind: Kind,
     pub stones: CellSet,
+}
+
+// The stones tell most keys apart, and a key that is equal has equal ones.
+impl Hash for Key {
+    ghost use Rattle.std.specs.Hash as fed;
+    ghost use Rattle.std.specs.Cmp.Rules.{hashing};
+    ghost use Rattle.std.proofs.Common.{rules};
+
+    ghost hash_input = { λ key. fed.u128 key.stones };
+
+    ghost respects_eq = { Prim.search (hashing, rules) };
+
+    fn hash<H: Hasher>(&self, state: &mut H) {
+        self.stones.bits().hash(state);
+    }
 }
 
 /// How an entry came.
@@ -51,10 +67,7 @@ impl EdgeEntry {
     pub fn is_reported(&self) -> bool
         ensures { result ≡ is_report self.now.origin }
     {
-        match self.origin {
-            Origin::Report(_) => true,
-            Origin::Move(_) | Origin::Cases => false,
-        }
+        matches!(self.origin, Origin::Report(_))
     }
 
     /// How much it has of what is measured.
@@ -94,7 +107,7 @@ impl EdgeEntry {
 pub fn add_last(list: &mut Vec<EdgeEntry>, entry: &EdgeEntry) -> Result<(), AllocError>
     ensures { OnOk result (list.new.items ≡ newest_beside entry.now list.old.items) }
 {
-    drop_needless(list, entry);
+    list.retain(|old| !entry.makes_needless(old));
     // (Field by field, since the prover gets no proof of a push of `*entry` here.)
     list.push(EdgeEntry {
         carrier: entry.carrier,
@@ -102,14 +115,6 @@ pub fn add_last(list: &mut Vec<EdgeEntry>, entry: &EdgeEntry) -> Result<(), Allo
         origin: entry.origin,
     })?;
     Ok(())
-}
-
-// Takes away those that the entry makes needless.
-fn drop_needless(list: &mut Vec<EdgeEntry>, entry: &EdgeEntry)
-    ensures { let es = list.old.items in
-        list.new.items ≡ filter (λ old. not (makes_needless entry.now old)) es }
-{
-    list.retain(|old| !entry.makes_needless(old));
 }
 
 /// Says how many lines the entry at a place has.

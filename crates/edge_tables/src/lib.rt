@@ -19,18 +19,18 @@
 //! `None` exactly if there is none. New tables have none. [`Tables::put`] leaves the entries of
 //! each other key, and of its own key all but those that the new entry makes needless, with it as
 //! the newest, or all as they are if one of them makes it needless (`with_newest`).
-//! [`Tables::put_all`] does so with each entry of each scope (`ArePut`), and leaves the entries of
-//! the other player. [`Tables::set_lines`] changes the lines of one entry, and nothing else. A full
-//! table stays as it was. The places of a [`cover`] are places of the list, not one alone, and its
-//! carriers have no cell of the region in common; [`choices_of`] and [`together`] are exact. So are
-//! [`EdgeEntry::amount`] and [`EdgeEntry::is_reported`]. Nothing says that an entry is true: a
-//! certificate that is made of them is checked.
+//! [`Tables::put_all`] does so with each entry of each of the player's keys (`ArePut`), and leaves
+//! the entries of the other player. [`Tables::scopes`] answers the stones of the player's keys that
+//! have a list, and no others. [`Tables::set_lines`] changes the lines of one entry, and nothing
+//! else. A full table stays as it was. The places of a [`cover`] are places of the list, not one
+//! alone, and its carriers have no cell of the region in common; [`choices_of`] and [`together`]
+//! are exact. So are [`EdgeEntry::amount`] and [`EdgeEntry::is_reported`]. Nothing says that an
+//! entry is true: a certificate that is made of them is checked.
 //!
 //! **What is only tested, or not said.** When a table is full: a body that always says so is
-//! proved. What the key of a call that failed has. That each scope is kept under its own stones is
-//! no invariant, so [`Tables::put_all`] and [`Tables::scopes`] speak of the stones that a scope
-//! names; and the order that [`Tables::scopes`] answers. Which of several with as little
-//! [`Tables::least`] answers (the newest), and which of several covers is chosen; a body of
+//! proved. What the key of a call that failed has: [`Tables::scopes`] may answer its stones. The
+//! order that [`Tables::scopes`] answers, and that it answers them once. Which of several with as
+//! little [`Tables::least`] answers (the newest), and which of several covers is chosen; a body of
 //! [`cover`] that always answers none is proved. Any call that takes memory may say that it ran
 //! out.
 //!
@@ -40,6 +40,8 @@
 //!
 //! - Entries are looked up by the stones of their player alone, since they stand wherever their
 //!   carrier is empty: what was found at one state decides others.
+//! - A key's hash is of its stones alone: those of the other kind stand next to it, and one number
+//!   is hashed in place of three.
 //! - A wider entry stays beside a narrower one if it has less than half as many lines: it makes the
 //!   certificate shorter.
 //! - The maps are the kit's, which keep the order of insertion, so that one search has one result.
@@ -47,7 +49,6 @@
 
 mod covers;
 mod entries;
-mod scopes;
 mod stops;
 mod tables;
 

@@ -1,20 +1,15 @@
 //! Entries between the edges of each player, by his stones.
 
-ghost use Rattle.std.specs.Prelude.{◌≡◌, ℕ, [], ◌∷◌, filter, reverse, IfOk, OnOk};
+ghost use Rattle.std.specs.Prelude.{◌≡◌, ◌↔◌, ℕ, [], filter, reverse, Contains, IfOk, IsSome, OnOk};
 ghost use Rattle.std.specs.List.{list_any};
-ghost use Rattle.std.specs.List.Sorted.{IsPermutation};
-ghost use Rattle.indexmap.specs.IndexMap.{values};
 ghost use Rattle.hex_cells.specs.Sets.{has};
 ghost use Rattle.edge_tables.specs.Entries.{AgreeBut, AgreeOnOther, ArePut, IsLeastInside};
-ghost use Rattle.edge_tables.specs.Entries.{entries_of, scope_stones};
-ghost use Rattle.edge_tables.specs.Entries.{is_common, is_inside, makes_needless, newest_beside};
-ghost use Rattle.edge_tables.specs.Entries.{scopes_of, with_each};
-ghost use Rattle.edge_tables.specs.Entries.{with_lines_at, with_newest};
+ghost use Rattle.edge_tables.specs.Entries.{entries_of, is_common, is_inside, list_of};
+ghost use Rattle.edge_tables.specs.Entries.{key_stones, makes_needless, newest_beside};
+ghost use Rattle.edge_tables.specs.Entries.{with_each, with_lines_at, with_newest};
 
-use super::entries::{EdgeEntry, Key, Measure};
-use super::scopes::{Scope, add_among, set_lines_among};
+use super::entries::{EdgeEntry, Key, Measure, add_last, set_lines_at};
 use super::stops::FinderStop;
-use conn_store::Kind;
 use hex_cells::{CellSet, Colour};
 use indexmap::IndexMap;
 use std::alloc::{AllocError, Global};
@@ -25,8 +20,7 @@ const MOST_ENTRIES: usize = 2_000_000;
 /// The entries that are known.
 #[derive(Drop)]
 pub struct Tables {
-    black: IndexMap<u128, Scope>,
-    white: IndexMap<u128, Scope>,
+    known: IndexMap<Key, Vec<EdgeEntry>>,
     count: usize,
     alloc: Global,
 }
@@ -37,19 +31,9 @@ impl Tables {
         ensures { (key : Key) → entries_of result key ≡ [] }
     {
         Tables {
-            black: IndexMap::new(alloc),
-            white: IndexMap::new(alloc),
+            known: IndexMap::new(alloc),
             count: 0,
             alloc,
-        }
-    }
-
-    fn map(&self, player: Colour) -> &IndexMap<u128, Scope>
-        ensures { result.now ≡ scopes_of self.now player }
-    {
-        match player {
-            Colour::Black => &self.black,
-            Colour::White => &self.white,
         }
     }
 
@@ -57,8 +41,8 @@ impl Tables {
     pub fn entries(&self, key: &Key) -> &[EdgeEntry]
         ensures { result.now ≡ entries_of self.now key.now }
     {
-        match self.map(key.player).get(&key.stones.bits()) {
-            Some(scope) => scope.list(key.kind),
+        match self.known.get(key) {
+            Some(list) => list,
             None => &[],
         }
     }
@@ -112,13 +96,10 @@ impl Tables {
         ensures { let es = entries_of self.now key.now in
             IfOk result (λ list. list.items ≡ filter (is_inside region) (reverse es)) }
     {
-        let mut list = Vec::new(alloc);
-        for entry in self.entries(key).iter().rev() {
-            if entry.lies_inside(region) {
-                list.push(*entry)?;
-            }
-        }
-        Ok(list)
+        let newest_first = self.entries(key).iter().rev().copied();
+        newest_first
+            .filter(|entry| entry.lies_inside(region))
+            .collect(alloc)
     }
 
     /// Adds an entry, unless one that is there makes it needless, and takes away those that it
@@ -158,42 +139,36 @@ impl Tables {
             OnOk result (entries_of self.new key.now ≡ newest_beside entry.now es) }
         ensures aside { AgreeBut key.now self.old self.new }
     {
-        match key.player {
-            Colour::Black => add_among(self.alloc, &mut self.black, key, entry),
-            Colour::White => add_among(self.alloc, &mut self.white, key, entry),
+        self.open(key)?;
+        match self.known.get_mut(key) {
+            Some(list) => add_last(list, entry),
+            None => Ok(()),
         }
     }
 
-    /// Puts all entries of a player that others have.
-    pub fn put_all(&mut self, others: &Tables, player: Colour) -> Result<(), FinderStop>
-        ensures put { let scopes = values (scopes_of others.now player) in
-            OnOk result (ArePut player scopes self.old self.new) }
-        ensures other { AgreeOnOther player self.old self.new }
+    // Makes a list for the key, if there is none.
+    fn open(&mut self, key: &Key) -> Result<(), AllocError>
+        ensures opened { OnOk result (IsSome (list_of self.new key.now)) }
+        ensures same { (k : Key) → entries_of self.new k ≡ entries_of self.old k }
     {
-        for scope in others.map(player).values() {
-            self.put_scope(scope, player)?;
+        if self.known.get(key).is_none() {
+            self.known.insert(*key, Vec::new(self.alloc))?;
         }
         Ok(())
     }
 
-    // Puts the entries of a player with certain stones.
-    fn put_scope(&mut self, scope: &Scope, player: Colour) -> Result<(), FinderStop>
-        ensures put { OnOk result (ArePut player (scope.now ∷ []) self.old self.new) }
+    /// Puts all entries of a player that others have.
+    pub fn put_all(&mut self, others: &Tables, player: Colour) -> Result<(), FinderStop>
+        ensures put { let pairs = others.now.known.entries in
+            OnOk result (ArePut player pairs self.old self.new) }
         ensures other { AgreeOnOther player self.old self.new }
     {
-        let stones = scope.stones;
-        let full = Key {
-            player,
-            kind: Kind::Full,
-            stones,
-        };
-        let semi = Key {
-            player,
-            kind: Kind::Semi,
-            stones,
-        };
-        self.put_each(&full, scope.list(Kind::Full))?;
-        self.put_each(&semi, scope.list(Kind::Semi))
+        for (key, entries) in &others.known {
+            if key.player == player {
+                self.put_each(key, entries)?;
+            }
+        }
+        Ok(())
     }
 
     // Puts these entries of a key, one after the other.
@@ -210,15 +185,21 @@ impl Tables {
 
     /// The sets of stones for which a player has entries, those with the most stones first.
     pub fn scopes(&self, alloc: Global, player: Colour) -> Result<Vec<CellSet>, AllocError>
-        ensures { let stones = scope_stones (scopes_of self.now player) in
-            IfOk result (λ list. IsPermutation stones list.items) }
+        ensures { let stones = key_stones self.now player in
+            IfOk result (λ list. (s : ℕ) → Contains list.items s ↔ Contains stones s) }
     {
-        let mut list = Vec::new(alloc);
-        for scope in self.map(player).values() {
-            list.push(scope.stones)?;
-        }
+        let mut list = self.stones(alloc, player)?;
         list.sort_unstable_by_key(|stones| (u32::MAX - stones.count(), stones.bits()));
+        list.dedup();
         Ok(list)
+    }
+
+    // The stones of each key of a player.
+    fn stones(&self, alloc: Global, player: Colour) -> Result<Vec<CellSet>, AllocError>
+        ensures { IfOk result (λ list. list.items ≡ key_stones self.now player) }
+    {
+        let keys = self.known.keys().filter(|key| key.player == player);
+        keys.map(|key| key.stones).collect(alloc)
     }
 
     /// Says how many lines the entry at a place of a key has.
@@ -227,9 +208,8 @@ impl Tables {
             entries_of self.new key.now ≡ with_lines_at place lines es }
         ensures aside { AgreeBut key.now self.old self.new }
     {
-        match key.player {
-            Colour::Black => set_lines_among(&mut self.black, key, place, lines),
-            Colour::White => set_lines_among(&mut self.white, key, place, lines),
+        if let Some(list) = self.known.get_mut(key) {
+            set_lines_at(list, place, lines);
         }
     }
 }

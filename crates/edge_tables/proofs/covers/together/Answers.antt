@@ -1,27 +1,14 @@
-use Rattle.std.proofs.Common.{◌||◌, ◌∙◌, ap, sym, arith}
-use Rattle.hex_cells.specs.Sets.{has}
-use Rattle.edge_tables.proofs.Chosen.{more_some, more_none, covered_push, lines_push}
+-- The loop has gone over the choices at the places.
+use Rattle.std.proofs.Common.{◌∙◌, sym, rules, tests, slice_get}
+use Rattle.std.proofs.lemmas.List.{map-id}
+use Rattle.std.proofs.lemmas.Iterator.{YieldsList-from_slice}
+use Rattle.std.proofs.lemmas.Iterator.Consumers.{YieldsList-at, YieldsList-end, YieldsList-from_filter_map}
 use Rattle.edge_tables.proofs.covers.together.Goals as goal
-use Rattle.edge_tables.proofs.covers.together.Goals.{in-Some, in_default}
 
-pub loop-place-preserved : goal.loop-place-preserved
-loop-place-preserved c = elim c.match-get.branch [
-  | in-Some w ↦
-      let choice = w.in-Some.choice.now in
-      let at = w.in-Some.ensures.lookup in
-      let more = more_some c.args.list.now c.args.chosen.now c.loop-place.place-index choice
-      c.loop-place-test.true at.3.0 (at.3.1 choice) in
-      rw (w.union-is, w.lines-is, more) (record {
-        cells = λ k. w.union-union.ensures.items k
-            ∙ ap (λ b. b || has choice.carrier k) (c.loop-place.invariant.cells k)
-            ∙ sym (covered_push _ choice k);
-        lines = rw lines_push (omega (arith, w.saturating_add-lines.ensures, c.loop-place.invariant.lines));
-      })
-  | in_default w ↦
-      rw (
-        w.union-is,
-        w.lines-is,
-        more_none c.args.list.now c.args.chosen.now c.loop-place.place-index
-            c.loop-place-test.true w.in_default.ensures.lookup.3,
-      ) c.loop-place.invariant
-]
+pub returns : goal.returns
+returns c =
+    let end = YieldsList-end (YieldsList-at {t = c.filter_map-choice-items.result} (cc)
+    (YieldsList-from_filter_map _ (λ p. slice_get c.args.list.now p) (YieldsList-from_slice c.args.chosen.now cc)
+    c.filter_map-choice-items.ensures.closure (λ x r q k. search (rules, tests))))
+    c.loop-choice.yielded _ c.loop-choice.yielded_by _ _ c.in-None.is c.next.ensures.steps in
+    rw (sym (map-id c.loop-choice.yielded) ∙ end.0) at c.loop-choice.invariant
