@@ -62,18 +62,29 @@ fn show(
     let stones = draft.block_mut(scope)?.stones;
     let needs = draft.needs_of(scope)?;
     let mut scene = Scene::make(deriver, tables, draft, stones, &needs)?;
-    let groups = groups_of(&scene, &needs)?;
+    serve(deriver, draft, scope, &mut scene, needs)?;
+    draft.block_mut(scope)?.pool = scene.pool;
+    Ok(())
+}
+
+// Serves the needs of a scope.
+fn serve(
+    deriver: &mut Deriver,
+    draft: &mut Draft,
+    scope: usize,
+    scene: &mut Scene,
+    needs: Vec<Need>,
+) -> Result<(), FinderStop> {
+    let groups = groups_of(scene, &needs)?;
     let mut open = needs;
     open.retain(|need| need.kind == Kind::Semi);
     for group in groups {
-        serve_group(draft, scope, &mut scene, group, &mut open)?;
+        serve_group(draft, scope, scene, group, &mut open)?;
     }
     if open.iter().any(|need| need.place == CLAIM) {
         scene.find_stone(deriver)?;
     }
-    serve_open(draft, scope, &mut scene, open)?;
-    draft.block_mut(scope)?.pool = scene.pool;
-    Ok(())
+    serve_open(draft, scope, scene, open)
 }
 
 // The full needs in groups.

@@ -43,9 +43,11 @@
 //!   entries of a pair: fewer entries make shorter derivations.
 //! - Who asks [`find`] wants to play: so a claim is served by a stone. If the search ended before
 //!   it knew one, H-search finds it inside the carrier of the entry that decided.
-//! - If the certificate has more lines than one may have, searches by other orders put their
-//!   entries to the rest, and it is made anew. If it still has too many, short proofs are looked
-//!   for where it is dear.
+//! - If the certificate has more lines than one may have, short proofs are looked for where it is
+//!   dear, by one state each, since that takes little time. If it still has too many, searches by
+//!   other orders put their entries to the rest, and it is made anew. None of them enters more
+//!   states than the first search, so that all together take no more than a few times as long; at
+//!   last come short proofs by more states.
 #![tactic(auto)]
 
 mod assemblies;

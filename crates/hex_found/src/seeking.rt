@@ -14,7 +14,7 @@ use hex_board::Board;
 use hex_cells::Colour;
 use hex_scout::{Order, Search, State};
 use indexmap::IndexMap;
-use std::alloc::Global;
+use std::alloc::{AllocError, Global};
 use win_cert::Cert;
 
 /// What a search found. No clause says that it is so, but for the budget.
@@ -64,8 +64,9 @@ struct Work {
 }
 
 /// Searches who wins the position, entering at most `budget` states. If the certificate has more
-/// lines than are wanted, what is left of the budget goes into searches by other orders, which find
-/// shorter entries.
+/// lines than are wanted, what is left of the budget goes into short proofs where it is dear, and
+/// into searches by other orders, which find shorter entries; each of these enters at most as many
+/// states as the first one did.
 ///
 /// A body that enters none, and finds nothing, is proved; tests tell how many are entered.
 pub fn seek(
@@ -150,23 +151,35 @@ fn make_cert(
     requires within { sought.old.entered ≤ budget }
     ensures within { sought.new.entered ≤ budget }
 {
-    let mut work = Work {
-        alloc,
-        root: *root,
-        player,
-        search,
-        deriver: Deriver::make(alloc, root.board.size(), player)?,
-        tried: IndexMap::new(alloc),
-        best: None,
-        lines: usize::MAX,
-        wanted,
-    };
+    let mut work = Work::make(alloc, search, root, player, wanted)?;
     let end = work.shorten(budget, &mut sought.entered);
     work.put_cert(sought)?;
     end
 }
 
 impl Work {
+    // No draft yet.
+    fn make(
+        alloc: Global,
+        search: Search,
+        root: &State,
+        player: Colour,
+        wanted: usize,
+    ) -> Result<Work, AllocError> {
+        let deriver = Deriver::make(alloc, root.board.size(), player)?;
+        Ok(Work {
+            alloc,
+            root: *root,
+            player,
+            search,
+            deriver,
+            tried: IndexMap::new(alloc),
+            best: None,
+            lines: usize::MAX,
+            wanted,
+        })
+    }
+
     // Makes a certificate of the shortest draft.
     fn put_cert(&self, sought: &mut Sought) -> Result<(), FinderStop>
         ensures kept { sought.new.entered ≡ sought.old.entered }
@@ -179,31 +192,36 @@ impl Work {
     }
 
     // Makes drafts, of what was found and of what searches by other orders find, until one has no
-    // more lines than are wanted.
+    // more lines than are wanted. None of these enters more states than the first search did. What
+    // short proofs of one state each give comes before them, since it takes less time; longer ones
+    // come last.
     fn shorten(&mut self, budget: u64, entered: &mut u64) -> Result<(), FinderStop>
         requires within { entered.old ≤ budget }
         ensures within { entered.new ≤ budget }
     {
+        let first = *entered;
         self.draft()?;
+        self.polish(FIRST_STATES, budget, entered)?;
         for order in Order::others() {
             if self.lines <= self.wanted {
                 return Ok(());
             }
-            *entered += self.search_again(order, budget - *entered)?;
+            let states = first.min(budget - *entered);
+            *entered += self.search_again(order, states)?;
             self.draft()?;
         }
-        self.polish(budget, entered)
+        self.polish(MOST_STATES, budget, entered)
     }
 
     // Looks for short proofs where the draft is dear, while it has more lines than are wanted and
-    // budget is left.
-    fn polish(&mut self, budget: u64, entered: &mut u64) -> Result<(), FinderStop>
+    // budget is left, each of at most so many states.
+    fn polish(&mut self, most: u64, budget: u64, entered: &mut u64) -> Result<(), FinderStop>
         requires within { entered.old ≤ budget }
         ensures within { entered.new ≤ budget }
     {
         let mut states = FIRST_STATES;
         'passes: for _pass in 0..MOST_PASSES {
-            if self.lines <= self.wanted || MOST_STATES < states || budget <= *entered {
+            if self.lines <= self.wanted || most < states || budget <= *entered {
                 return Ok(());
             }
             let before = self.lines;
