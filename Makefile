@@ -28,11 +28,11 @@ share = $(datadir)/hexd
 
 # Folders whose files lie in share, and stand among the documents by a link.
 folders = board examples gtp openings
-scripts = $(wildcard examples/*.py openings/check openings/draw.py openings/find.py openings/positions.py \
+scripts = $(wildcard examples/*.py openings/check openings/draw.py openings/find.py openings/middle.py openings/positions.py \
     tools/second_checker.py)
 texts = $(filter-out %/test.py $(scripts),$(wildcard $(folders:%=%/*.md) $(folders:%=%/*.py) \
-    board/page/* board/report.html board/certificate.html board/settings.json openings/Makefile openings/*.tsv tools/programs.py \
-    tools/python.bash tools/words.bash tools/progress.bash tools/options.txt man/*.help))
+    board/page/* board/report.html board/certificate.html board/settings.json openings/Makefile openings/*.tsv openings/*.sgf \
+    tools/programs.py tools/python.bash tools/words.bash tools/progress.bash tools/options.txt man/*.help))
 others = $(wildcard examples/certificates/* openings/*.xz openings/pictures/*)
 # Documents name one another by their places here, so they keep these.
 pages = $(wildcard *.md docs/*/*.md crates/README.md web/README.md tools/README.md tools/*/README.md release/NOTICES)

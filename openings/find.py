@@ -58,9 +58,14 @@ def ended(process):
 
 
 def solved(opening, budget):
-    """What `hexd solve` says of an opening, and the processor seconds and the most memory, in MB, that it took."""
+    """What `hexd solve` says of an opening, as `answered` has it."""
+    return answered(f"(;GM[11]SZ[{opening.size}];B[{vertex(*opening)}])", budget)
+
+
+def answered(record, budget):
+    """What `hexd solve` says of a record, and the processor seconds and the most memory, in MB, that it took."""
     with tempfile.TemporaryFile() as given, tempfile.TemporaryFile() as said:
-        given.write(f"(;GM[11]SZ[{opening.size}];B[{vertex(*opening)}])".encode())
+        given.write(record.encode())
         given.seek(0)
         # Ctrl-C waits while it starts: before that is over nobody could end it.
         signal.pthread_sigmask(signal.SIG_BLOCK, {signal.SIGINT})

@@ -7,7 +7,7 @@ of size 3 also each other line cut off. openings/check refuses each file of size
 true certificate with a claim that is not the opening's, a file with a byte changed, and an opening that is missing.
 find.py makes size 3 anew, openings/check accepts what it makes, and a second start finds nothing left to do; a budget
 that is too small leaves an opening open; after Ctrl-C there is no part of a file. The rows that it adds are those that
-README.md's tables are made of. positions.py comes to the same number from any other.
+README.md's tables are made of. positions.py comes to the same number from any other. middle.py counts what it decides.
 
 HEXD names the program; if it isn't set that is bin/hexd.
 """
@@ -184,6 +184,14 @@ def expect_positions(folder):
         expect(seen == (0, "4-d1\t5\n", "4-d1\t5\n"), f"positions.py from {guess!r}: {seen}")
 
 
+def expect_middle():
+    """One position decides nothing; the last line counts."""
+    done = subprocess.run([FOLDER / "middle.py", "--budget", "1", "--first", "2"], capture_output=True, text=True)
+    said = done.stdout.splitlines()
+    fits = len(said) == 3 and said[1].startswith("2: unknown 1; ") and said[2] == "0 of 2 decided"
+    expect(done.returncode == 0 and fits, f"middle.py: status {done.returncode}, {said}, {done.stderr!r}")
+
+
 def expect_interrupted(folder):
     """After Ctrl-C it ends in order: what it had found is there, and no part of another file."""
     words = [FOLDER / "find.py", "--out", folder, "3-a1", "7-b3"]
@@ -213,6 +221,7 @@ def main():
     expect_refusals()
     expect_other_statuses()
     expect_interrupted_check()
+    expect_middle()
     trials = expect_other_names, expect_other_claim, expect_whole_files, expect_found, expect_positions, expect_interrupted
     for trial in trials:
         with tempfile.TemporaryDirectory() as folder:
