@@ -6,7 +6,7 @@ use hsearch::connect;
 use std::alloc::Global;
 use std::rt::HostRuntime;
 use std::test::Fail;
-use win_cert::{CertError, End, LATEST_VERSION, Line, lines_onto, raise, read, write};
+use win_cert::{CertError, End, LATEST_VERSION, Line, is_writable, lines_onto, raise, read, write};
 
 const V1: &[u8] = b"hexcert 1\nsize 2\nplayer black\nblack\nwhite\n\
     adj a2 a1\nadj a1 edge1\nadj a2 b1\nadj b1 edge1\n\
@@ -65,6 +65,19 @@ fn read_and_written(rt: HostRuntime) -> Result<(), Fail> {
     assert!(rt; raised.as_slice().ends_with(&V1[10..]));
     assert_eq!(rt; rewritten(rt.alloc(), MANY, true)?.as_slice(), MANY);
     assert_eq!(rt; LATEST_VERSION, 3);
+    Ok(())
+}
+
+// An `or` of four can be written in version 3 alone.
+#[test]
+fn written_in_one_version(rt: HostRuntime) -> Result<(), Fail> {
+    let Ok(mut cert) = read(rt.alloc(), MANY) else {
+        return Err("a certificate".into());
+    };
+    for (version, can_be) in [(2, false), (LATEST_VERSION, true), (4, false)] {
+        cert.version = version;
+        assert_eq!(rt; is_writable(&cert), can_be);
+    }
     Ok(())
 }
 

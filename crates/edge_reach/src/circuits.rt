@@ -4,7 +4,6 @@
 use super::elements::Elements;
 use super::found::Found;
 use circuit::Mesh;
-use hex_board::MOST_ELEMENTS;
 use hex_cells::MOST_CELLS;
 
 /// The whole current between the edges.
@@ -25,13 +24,13 @@ pub(crate) fn currents_of(
     mesh: &mut Mesh,
 ) -> [u64; MOST_CELLS as usize] {
     put_wires(elements, found, mesh);
-    mesh.solve(elements.count());
+    mesh.solve(usize::from(elements.count()));
     let total = mesh.total();
     let mut currents = [0u64; MOST_CELLS as usize];
     for x in 0..elements.count() {
         if let Some(cell) = elements.alone(x).least() {
             // A flow counts what comes and what goes.
-            let current = mesh.flow(x).saturating_mul(FLOW / 2) / u64::from(total);
+            let current = mesh.flow(usize::from(x)).saturating_mul(FLOW / 2) / u64::from(total);
             currents[cell.number() as usize] = current;
         }
     }
@@ -41,25 +40,20 @@ pub(crate) fn currents_of(
 // Puts a wire for each pair of elements with a full entry.
 fn put_wires(elements: &Elements, found: &Found, mesh: &mut Mesh) {
     for y in 0..elements.count() {
-        if let Some(row) = mesh.wires(y) {
-            put_row(elements, found, y, row);
+        if let Some(row) = mesh.wires(usize::from(y)) {
+            for (x, wire) in (0..y).zip(row.iter_mut()) {
+                *wire = conductance(elements, found, x, y);
+            }
         }
     }
 }
 
-// Puts the wires of an element in its row.
-fn put_row(elements: &Elements, found: &Found, y: usize, row: &mut [u32; MOST_ELEMENTS]) {
-    for x in 0..y.min(MOST_ELEMENTS) {
-        row[x] = if found.has_full(x as u8, (y % MOST_ELEMENTS) as u8) {
-            conductance(elements, x, y)
-        } else {
-            0
-        };
+// The conductance of the wire between two elements, 0 if there is none.
+#[inline(always)]
+fn conductance(elements: &Elements, found: &Found, x: u8, y: u8) -> u32 {
+    if !found.has_full(x, y) {
+        return 0;
     }
-}
-
-// The conductance of a wire.
-fn conductance(elements: &Elements, x: usize, y: usize) -> u32 {
     match (elements.alone(x).is_empty(), elements.alone(y).is_empty()) {
         (false, false) => CELLS,
         (true, true) => GROUPS,

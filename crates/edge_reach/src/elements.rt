@@ -6,8 +6,9 @@ ghost use Rattle.edge_reach.specs.declared.entries.End.{End};
 
 use super::entries::End;
 use super::reports::Question;
-use hex_board::{MOST_ELEMENTS, flood};
-use hex_cells::{Cell, CellSet, MOST_CELLS, edge};
+use hex_board::flood;
+use hex_cells::{Cell, CellSet, MOST_CELLS, Size, edge};
+use std::alloc::{AllocError, Global};
 
 /// The cells of a set in rising order.
 #[derive(Drop)]
@@ -32,49 +33,52 @@ impl Iterator for Cells {
     }
 }
 
-/// The elements. Number 0 has the first edge, number 1 the second; the others follow by their least
-/// cells. A player who is joined has the same cells in both.
-#[derive(Drop)]
-pub(crate) struct Elements {
-    count: usize,
-    cells: [CellSet; MOST_ELEMENTS],
-    // Of an empty cell that cell, of a group none.
-    alone: [CellSet; MOST_ELEMENTS],
-    // The element of each cell that is empty or the player's.
-    of: [u8; MOST_CELLS as usize],
+// An element: its cells, and those of the board that lie beside it, with those of its edge.
+#[derive(Clone, Copy, Debug)]
+struct Element {
+    cells: CellSet,
+    near: CellSet,
 }
 
-// The set with this element.
-fn bit(element: u8) -> u128 {
-    if element < 128 { 1u128 << element } else { 0 }
+/// The elements. Number 0 has the first edge, number 1 the second; the others follow by their least
+/// cells. Stones that lead to both edges are the second's.
+#[derive(Drop)]
+pub(crate) struct Elements {
+    list: Vec<Element>,
+    empties: CellSet,
 }
 
 impl Elements {
     /// No elements.
-    pub(crate) fn none() -> Elements {
+    pub(crate) fn none(alloc: Global) -> Elements {
         Elements {
-            count: 0,
-            cells: [CellSet::none(); MOST_ELEMENTS],
-            alone: [CellSet::none(); MOST_ELEMENTS],
-            of: [0; MOST_CELLS as usize],
+            list: Vec::new(alloc),
+            empties: CellSet::none(),
         }
     }
 
     /// How many there are.
-    pub(crate) fn count(&self) -> usize {
-        self.count
+    pub(crate) fn count(&self) -> u8 {
+        u8::try_from(self.list.len()).unwrap_or(u8::MAX)
     }
 
     /// The cells of an element; none past the last.
-    pub(crate) fn cells(&self, element: usize) -> CellSet {
-        let cells = self.cells.get(element).copied();
-        cells.unwrap_or(CellSet::none())
+    #[inline(always)]
+    pub(crate) fn cells(&self, element: u8) -> CellSet {
+        let element = self.list.get(element as usize);
+        element.map_or(CellSet::none(), |element| element.cells)
     }
 
     /// The empty cell that an element is, as a set; none if it is a group.
-    pub(crate) fn alone(&self, element: usize) -> CellSet {
-        let cell = self.alone.get(element).copied();
-        cell.unwrap_or(CellSet::none())
+    pub(crate) fn alone(&self, element: u8) -> CellSet {
+        self.cells(element).meet(self.empties)
+    }
+
+    /// Whether two elements lie side by side, of which `x` is the lesser.
+    #[inline(always)]
+    pub(crate) fn are_near(&self, x: u8, y: u8) -> bool {
+        let x = self.list.get(x as usize);
+        x.is_some_and(|x| x.near.meets(self.cells(y)))
     }
 
     /// What names an element at the end of a connection.
@@ -85,73 +89,40 @@ impl Elements {
         match element {
             0 => End::First,
             1 => End::Second,
-            _ => match self.cells(element as usize).least() {
-                Some(cell) => End::At(cell.number()),
-                None => End::Second,
-            },
+            _ => {
+                let least = self.cells(element).least();
+                least.map_or(End::Second, |cell| End::At(cell.number()))
+            }
         }
     }
 
     /// Makes these the elements of the player that is asked about.
-    pub(crate) fn load(&mut self, question: &Question) {
-        let Question {
-            size,
-            player,
-            stones,
-            region,
-        } = *question;
-        let first = flood(edge(player, false, size), stones, size);
-        let second = flood(edge(player, true, size), stones, size);
-        self.count = 0;
-        self.put(first, false);
-        self.put(second, false);
-        let mut rest = stones.union(region).minus(first).minus(second);
-        for _element in 2..MOST_ELEMENTS {
+    pub(crate) fn load(&mut self, question: &Question) -> Result<(), AllocError> {
+        let (size, stones) = (question.size, question.stones);
+        let first_edge = edge(question.player, false, size);
+        let second_edge = edge(question.player, true, size);
+        let second = flood(second_edge, stones, size);
+        let first = flood(first_edge, stones, size).minus(second);
+        self.empties = question.region.minus(stones);
+        self.list.clear();
+        self.put(first, first_edge, size)?;
+        self.put(second, second_edge, size)?;
+        let mut rest = stones.union(question.region).minus(first).minus(second);
+        for _element in 0..MOST_CELLS {
             let Some(cell) = rest.least() else {
-                return;
+                break;
             };
-            let single = CellSet::none().with(cell);
-            let is_stone = stones.has(cell);
-            let cells = if is_stone {
-                flood(single, stones, size)
-            } else {
-                single
-            };
-            self.put(cells, !is_stone);
-            rest = rest.minus(cells).without(cell);
+            let cells = flood(CellSet::none().with(cell), stones, size).with(cell);
+            self.put(cells, CellSet::none(), size)?;
+            rest = rest.minus(cells);
         }
+        Ok(())
     }
 
-    // Puts one more element.
-    fn put(&mut self, cells: CellSet, is_empty: bool) {
-        let element = self.count;
-        if element < MOST_ELEMENTS {
-            self.cells[element] = cells;
-            self.alone[element] = if is_empty { cells } else { CellSet::none() };
-            for cell in cells_of(cells) {
-                self.of[cell.number() as usize] = element as u8;
-            }
-            self.count = element + 1;
-        }
-    }
-
-    /// The elements with lower numbers that lie beside this one, as bits.
-    pub(crate) fn near_below(&self, element: usize, question: &Question) -> u128 {
-        let cells = self.cells(element);
-        let all = question.stones.union(question.region);
-        let mut near = 0;
-        for cell in cells_of(cells.around(question.size).meet(all)) {
-            near |= bit(self.of[cell.number() as usize]);
-        }
-        let second = edge(question.player, true, question.size);
-        if cells.meets(edge(question.player, false, question.size))
-            || element == 1 && self.cells(0).meets(second)
-        {
-            near |= 1;
-        }
-        if cells.meets(second) {
-            near |= 2;
-        }
-        near
+    // Puts one more element, which has this edge.
+    fn put(&mut self, cells: CellSet, edge: CellSet, size: Size) -> Result<(), AllocError> {
+        let near = cells.around(size).union(edge);
+        self.list.push(Element { cells, near })?;
+        Ok(())
     }
 }

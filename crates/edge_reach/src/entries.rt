@@ -8,21 +8,17 @@ use hex_cells::CellSet;
 /// The most semi entries that together make a full one.
 pub const MOST_UNITED: usize = 8;
 
-/// The rule by which an entry follows, and the numbers of its premises.
-#[derive(Clone, Copy, Debug, PartialEq, Eq)]
-pub enum Cause {
-    /// The elements lie side by side.
+/// The rule by which an entry follows from others, its premises.
+#[derive(Clone, Copy, Debug, PartialEq, Eq, Hash)]
+pub enum Rule {
+    /// It has none: the elements lie side by side.
     Adjacent,
     /// Two full entries meet in a group.
-    And(u32, u32),
+    And,
     /// Two full entries meet in an empty cell.
-    Key(u32, u32),
-    /// Two semi entries of the same elements, whose carriers have no cell in common.
-    Or2(u32, u32),
-    /// Three of them.
-    Or3(u32, u32, u32),
-    /// Four or more: so many numbers from this place on in the list that the report keeps.
-    OrMany(usize, usize),
+    Key,
+    /// Semi entries of the same elements have no cell in common.
+    Or,
 }
 
 /// A connection of two elements.
@@ -33,15 +29,18 @@ pub struct Entry {
     pub x: u8,
     pub y: u8,
     pub carrier: CellSet,
-    pub cause: Cause,
+    pub rule: Rule,
+    // Where the report's list of premises has its own, and how many they are.
+    pub(crate) first: usize,
+    pub(crate) count: usize,
     /// The lines of its derivation, those that it uses twice counted twice, if lines are counted.
     pub lines: u32,
 }
 
 impl Entry {
-    /// An entry whose lines aren't counted.
+    /// An entry without premises.
     #[inline(always)]
-    pub(crate) fn of(kind: Kind, x: u8, y: u8, carrier: CellSet, cause: Cause) -> Entry
+    pub(crate) fn of(kind: Kind, x: u8, y: u8, carrier: CellSet, rule: Rule) -> Entry
         ensures ordered { result.x ≤ result.y }
         ensures carrier { result.carrier ≡ carrier }
     {
@@ -51,7 +50,9 @@ impl Entry {
             x,
             y,
             carrier,
-            cause,
+            rule,
+            first: 0,
+            count: 0,
             lines: 0,
         }
     }
@@ -76,17 +77,6 @@ pub enum End {
     Second,
 }
 
-impl Cause {
-    /// The numbers of its premises; none of four or more, which the report's list has.
-    pub(crate) fn premises(self) -> [Option<u32>; 3] {
-        match self {
-            Cause::Adjacent | Cause::OrMany(_, _) => [None, None, None],
-            Cause::And(i, j) | Cause::Key(i, j) | Cause::Or2(i, j) => [Some(i), Some(j), None],
-            Cause::Or3(i, j, k) => [Some(i), Some(j), Some(k)],
-        }
-    }
-}
-
 /// What becomes of an entry.
 #[derive(Clone, Copy, Debug, PartialEq, Eq)]
 pub(crate) enum State {
@@ -100,7 +90,13 @@ pub(crate) enum State {
 
 /// Gives up the entry with this number.
 pub(crate) fn give_up(states: &mut [State], number: u32) {
-    if let Some(state) = states.get_mut(number as usize) {
-        *state = State::GivenUp;
+    put_at(states, number as usize, State::GivenUp);
+}
+
+/// Puts this in place of what a list has at a place, if it has such a place.
+#[inline(always)]
+pub(crate) fn put_at<T: Copy>(list: &mut [T], place: usize, item: T) {
+    if let Some(old) = list.get_mut(place) {
+        *old = item;
     }
 }

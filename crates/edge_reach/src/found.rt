@@ -3,7 +3,7 @@
 ghost use Rattle.std.specs.Prelude.{◌≡◌};
 ghost use Rattle.edge_reach.specs.Reports.{edge_numbers};
 
-use super::entries::{Cause, Entry, State, give_up};
+use super::entries::{Entry, State, give_up};
 use super::held::{Held, MOST_FULL, MOST_SEMI};
 use super::queues::Queue;
 use conn_store::Kind;
@@ -33,41 +33,28 @@ pub(crate) struct Found {
     entries: Vec<Entry>,
     // What became of each. These stand apart, since most are read without their entries.
     states: Vec<State>,
-    // The premises of the entries that have four or more, one list behind another.
-    many: Vec<u32>,
+    // The premises of the entries, those of one behind those of another.
+    premises: Vec<u32>,
     fulls: Held,
     semis: Held,
     queue: Queue,
     edge_full: Vec<u32>,
     edge_semi: Vec<u32>,
-    // The cells that all semi entries between the edges have in common.
-    common: CellSet,
-}
-
-// The place of a pair.
-#[inline(always)]
-fn pair_of(x: u8, y: u8) -> usize {
-    let (x, y) = (x as usize, y as usize);
-    y * y.saturating_sub(1) / 2 + x
+    /// The cells that all semi entries between the edges have in common.
+    pub(crate) common: CellSet,
 }
 
 impl Found {
     /// Nothing yet.
     pub(crate) fn make(alloc: Global, size: Size, limits: Limits) -> Result<Found, AllocError> {
-        // Two groups have the edges, and each other element has a cell.
-        let elements = size.cells() as usize + 2;
-        let pairs = elements * (elements - 1) / 2;
-        let queue = Queue::make(alloc)?;
-        let fulls = Held::make(alloc, size, pairs, limits.full.min(MOST_FULL))?;
-        let semis = Held::make(alloc, size, pairs, limits.semi.min(MOST_SEMI))?;
         Ok(Found {
             limits,
             entries: Vec::new(alloc),
             states: Vec::new(alloc),
-            many: Vec::new(alloc),
-            fulls,
-            semis,
-            queue,
+            premises: Vec::new(alloc),
+            fulls: Held::make(alloc, size, limits.full.min(MOST_FULL))?,
+            semis: Held::make(alloc, size, limits.semi.min(MOST_SEMI))?,
+            queue: Queue::make(alloc)?,
             edge_full: Vec::new(alloc),
             edge_semi: Vec::new(alloc),
             common: CellSet::none(),
@@ -80,7 +67,7 @@ impl Found {
         self.semis.clear();
         self.entries.clear();
         self.states.clear();
-        self.many.clear();
+        self.premises.clear();
         self.queue.clear();
         self.edge_full.clear();
         self.edge_semi.clear();
@@ -94,15 +81,11 @@ impl Found {
         &self.entries
     }
 
-    /// The premises of a cause that has four or more; none of another.
-    pub(crate) fn many(&self, cause: Cause) -> &[u32] {
-        match cause {
-            Cause::OrMany(first, count) => {
-                let end = first.saturating_add(count);
-                self.many.get(first..end).unwrap_or(&[])
-            }
-            _ => &[],
-        }
+    /// The numbers of an entry's premises.
+    #[inline(always)]
+    pub(crate) fn premises(&self, entry: &Entry) -> &[u32] {
+        let end = entry.first.saturating_add(entry.count);
+        self.premises.get(entry.first..end).unwrap_or(&[])
     }
 
     /// The numbers of the entries between the edges.
@@ -115,193 +98,164 @@ impl Found {
         }
     }
 
-    /// The cells that all semi entries between the edges have in common.
-    pub(crate) fn common(&self) -> CellSet {
-        self.common
-    }
-
     /// Whether a pair has a full entry.
+    #[inline(always)]
     pub(crate) fn has_full(&self, x: u8, y: u8) -> bool {
-        0 < self.fulls.count(pair_of(x, y))
+        !self.fulls.is_empty(x, y)
     }
 
-    /// How many semi entries a pair has.
-    #[inline(always)]
-    pub(crate) fn semi_count(&self, x: u8, y: u8) -> usize {
-        self.semis.count(pair_of(x, y))
+    /// Lists the carrier and the number of each semi entry of the same elements that was taken
+    /// before this one: the cells that it and all of them have in common.
+    pub(crate) fn list_others(
+        &self,
+        entry: &Entry,
+        number: u32,
+        others: &mut Vec<(CellSet, u32)>,
+    ) -> Result<CellSet, AllocError> {
+        others.clear();
+        let mut common = entry.carrier;
+        for other in self.semis.numbers(entry.x, entry.y).iter().copied() {
+            if other != number
+                && self.states.get(other as usize) == Some(&State::Taken)
+                && let Some(entry) = self.entries.get(other as usize)
+            {
+                common = common.meet(entry.carrier);
+                others.push((entry.carrier, other))?;
+            }
+        }
+        Ok(common)
     }
 
-    /// The carrier and the number of a pair's semi entry at a place below their count.
-    #[inline(always)]
-    pub(crate) fn semi(&self, x: u8, y: u8, place: usize) -> Option<(CellSet, u32)> {
-        self.semis.at(pair_of(x, y), place)
-    }
-
-    /// Whether the entry was combined with others.
-    #[inline(always)]
-    pub(crate) fn is_taken(&self, number: u32) -> bool {
-        matches!(self.states.get(number as usize), Some(State::Taken))
-    }
-
-    /// Takes the next entry that waits: its number. `None` if none does.
-    pub(crate) fn take(&mut self) -> Option<u32> {
+    /// Takes the next entry that waits, with its number. `None` if none does.
+    pub(crate) fn take(&mut self) -> Option<(u32, Entry)> {
         for _given_up in 0..u32::MAX {
             let number = self.queue.take()?;
             if let Some(state) = self.states.get_mut(number as usize)
                 && *state == State::Waiting
             {
                 *state = State::Taken;
-                return Some(number);
+                return Some((number, *self.entries.get(number as usize)?));
             }
         }
         None
     }
 
-    /// Adds a full entry by four or more semi ones of its elements.
-    pub(crate) fn add_united(
-        &mut self,
-        x: u8,
-        y: u8,
-        carrier: CellSet,
-        premises: &[u32],
-    ) -> Result<(), AllocError> {
-        let cause = Cause::OrMany(self.many.len(), premises.len());
-        self.many.extend_from_slice(premises)?;
-        self.add_full(Entry::of(Kind::Full, x, y, carrier, cause))
-    }
-
-    /// Adds a full entry, unless there is a narrower one or too many.
-    pub(crate) fn add_full(&mut self, entry: Entry) -> Result<(), AllocError> {
-        let (pair, carrier) = (pair_of(entry.x, entry.y), entry.carrier);
-        if let Some(place) = self.fulls.first_inside(pair, carrier) {
-            let narrower = self.fulls.at(pair, place);
-            self.shorten(narrower, entry);
-        } else if let Ok(number) = u32::try_from(self.entries.len())
-            && self.fulls.makes_room(pair, carrier, &mut self.states)
-        {
-            self.fulls.push(pair, carrier, number);
-            if entry.is_between_edges() {
-                let states = &self.states;
-                self.edge_full.retain(|old| !is_given_up(states, *old));
-                self.edge_full.push(number)?;
-            }
-            self.enlist(entry, number)?;
-        }
-        Ok(())
-    }
-
-    /// Adds a semi entry, unless there is a narrower one or too many.
+    /// Adds an entry, unless there is a narrower one or too many.
     #[inline(always)]
-    pub(crate) fn add_semi(&mut self, entry: Entry) -> Result<(), AllocError> {
-        if entry.is_between_edges() {
-            return self.add_edge_semi(entry);
-        }
-        let (pair, carrier) = (pair_of(entry.x, entry.y), entry.carrier);
-        if let Some(place) = self.semis.first_inside(pair, carrier) {
-            let narrower = self.semis.at(pair, place);
-            self.shorten(narrower, entry);
-        } else if self.fulls.first_inside(pair, carrier).is_none()
-            && let Ok(number) = u32::try_from(self.entries.len())
-            && self.semis.makes_room(pair, carrier, &mut self.states)
+    pub(crate) fn add(&mut self, entry: Entry, premises: &[u32]) -> Result<(), AllocError> {
+        if let Some(narrower) = self.first_inside(&entry) {
+            self.shorten(narrower, &entry, premises)?;
+        } else if let Ok(number) = u32::try_from(self.entries.len())
+            && self.put(&entry, number)
         {
-            self.semis.push(pair, carrier, number);
-            self.enlist(entry, number)?;
+            self.enlist(entry, premises, number)?;
         }
         Ok(())
     }
 
-    fn add_edge_semi(&mut self, entry: Entry) -> Result<(), AllocError> {
-        let carrier = entry.carrier;
-        let narrower = first_inside(&self.edge_semi, &self.entries, carrier);
-        if narrower.is_some() {
-            self.shorten(narrower, entry);
-            return Ok(());
+    // The number of the first entry of the same kind and elements whose carrier lies inside this
+    // one's.
+    #[inline(always)]
+    fn first_inside(&self, entry: &Entry) -> Option<u32> {
+        match entry.kind {
+            Kind::Full => self.fulls.first_inside(entry),
+            Kind::Semi if entry.is_between_edges() => {
+                let mut numbers = self.edge_semi.iter().copied();
+                numbers.find(|number| {
+                    let old = self.entries.get(*number as usize);
+                    old.is_some_and(|old| old.carrier.inside(entry.carrier))
+                })
+            }
+            Kind::Semi => self.semis.first_inside(entry),
         }
-        self.give_up_around(carrier);
-        let has_room = self.edge_semi.len() < self.limits.edge_semi;
-        if let Ok(number) = u32::try_from(self.entries.len())
-            && (has_room || !self.common.inside(carrier))
-        {
-            self.edge_semi.push(number)?;
-            self.common = self.common.meet(carrier);
-            self.enlist(entry, number)?;
-        }
-        Ok(())
     }
 
-    // Gives up the semi entries between the edges around this carrier.
-    fn give_up_around(&mut self, carrier: CellSet) {
+    // Gives up the entries around this one, and puts it to those of its kind, if there is a place
+    // and no full one makes it needless: whether it is put.
+    #[inline(always)]
+    fn put(&mut self, entry: &Entry, number: u32) -> bool {
+        match entry.kind {
+            Kind::Full => self.fulls.put(entry, number, &mut self.states),
+            Kind::Semi if entry.is_between_edges() => self.keeps_at_edges(entry.carrier),
+            Kind::Semi => {
+                self.fulls.first_inside(entry).is_none()
+                    && self.semis.put(entry, number, &mut self.states)
+            }
+        }
+    }
+
+    // Gives up the semi entries between the edges around one with this carrier: whether that is to
+    // be kept.
+    fn keeps_at_edges(&mut self, carrier: CellSet) -> bool {
         let (entries, states) = (&self.entries, &mut self.states);
         self.edge_semi.retain(|number| {
-            let entry = entries.get(*number as usize);
-            let is_around = entry.is_some_and(|entry| carrier.inside(entry.carrier));
+            let old = entries.get(*number as usize);
+            let is_around = old.is_some_and(|old| carrier.inside(old.carrier));
             if is_around {
                 give_up(states, *number);
             }
             !is_around
         });
+        let is_kept = self.edge_semi.len() < self.limits.edge_semi || !self.common.inside(carrier);
+        if is_kept {
+            self.common = self.common.meet(carrier);
+        }
+        is_kept
     }
 
     // Puts a new entry behind the others, to wait.
-    #[inline(always)]
-    fn enlist(&mut self, entry: Entry, number: u32) -> Result<(), AllocError> {
-        let mut entry = entry;
-        if self.limits.counts_lines {
-            entry.lines = self.lines_by(entry.cause);
+    fn enlist(
+        &mut self,
+        mut entry: Entry,
+        premises: &[u32],
+        number: u32,
+    ) -> Result<(), AllocError> {
+        if entry.is_between_edges() {
+            match entry.kind {
+                Kind::Semi => self.edge_semi.push(number)?,
+                Kind::Full => {
+                    let states = &self.states;
+                    self.edge_full
+                        .retain(|old| states.get(*old as usize) != Some(&State::GivenUp));
+                    self.edge_full.push(number)?;
+                }
+            }
         }
+        if self.limits.counts_lines {
+            entry.lines = self.lines_by(premises);
+        }
+        (entry.first, entry.count) = (self.premises.len(), premises.len());
+        self.premises.extend_from_slice(premises)?;
         self.queue.put(entry.carrier.count(), number)?;
         self.entries.push(entry)?;
         self.states.push(State::Waiting)?;
         Ok(())
     }
 
-    // The lines of a derivation by this cause.
-    fn lines_by(&self, cause: Cause) -> u32 {
-        let mut lines = self.lines_of(self.many(cause));
-        for number in cause.premises().into_iter().flatten() {
-            lines = lines.saturating_add(self.lines_of(&[number]));
-        }
-        lines.saturating_add(1).min(MOST_LINES)
+    // The lines of a derivation from these premises.
+    fn lines_by(&self, premises: &[u32]) -> u32 {
+        let entries = premises
+            .iter()
+            .filter_map(|number| self.entries.get(*number as usize));
+        let lines = entries.fold(1u32, |sum, entry| sum.saturating_add(entry.lines));
+        lines.min(MOST_LINES)
     }
 
-    // The lines of these entries together.
-    fn lines_of(&self, numbers: &[u32]) -> u32 {
-        let mut lines = 0u32;
-        for number in numbers {
-            if let Some(entry) = self.entries.get(*number as usize) {
-                lines = lines.saturating_add(entry.lines);
-            }
-        }
-        lines
-    }
-
-    // If this is the same entry, and lines are counted, gives it the shorter derivation.
+    // If lines are counted, and the entry with this number is the same as the other, gives it the
+    // other's derivation if that is shorter.
     #[inline(always)]
-    fn shorten(&mut self, there: Option<(CellSet, u32)>, entry: Entry) {
-        if self.limits.counts_lines
-            && let Some((carrier, number)) = there
-            && carrier == entry.carrier
-        {
-            let lines = self.lines_by(entry.cause);
+    fn shorten(&mut self, number: u32, entry: &Entry, premises: &[u32]) -> Result<(), AllocError> {
+        let old = self.entries.get(number as usize);
+        if self.limits.counts_lines && old.is_some_and(|old| old.carrier == entry.carrier) {
+            let lines = self.lines_by(premises);
             if let Some(old) = self.entries.get_mut(number as usize)
                 && lines < old.lines
             {
-                old.lines = lines;
-                old.cause = entry.cause;
+                (old.lines, old.rule) = (lines, entry.rule);
+                (old.first, old.count) = (self.premises.len(), premises.len());
+                self.premises.extend_from_slice(premises)?;
             }
         }
+        Ok(())
     }
-}
-
-// The first of these entries whose carrier lies inside this one.
-fn first_inside(numbers: &[u32], entries: &[Entry], carrier: CellSet) -> Option<(CellSet, u32)> {
-    numbers.iter().find_map(|number| {
-        let there = entries.get(*number as usize)?.carrier;
-        there.inside(carrier).then_some((there, *number))
-    })
-}
-
-// Whether a narrower entry stands in this one's place.
-fn is_given_up(states: &[State], number: u32) -> bool {
-    matches!(states.get(number as usize), Some(State::GivenUp))
 }

@@ -1,8 +1,9 @@
 //! The entries of each pair of elements, of one kind.
 
-use super::entries::{State, give_up};
+use super::entries::{Entry, State, give_up, put_at};
 use hex_cells::{CellSet, MOST_CELLS, Size};
 use std::alloc::{AllocError, Global};
+use std::ops::Range;
 
 /// The most full entries of a pair.
 pub const MOST_FULL: usize = 12;
@@ -47,26 +48,27 @@ fn joined(low: u64, high: u64) -> CellSet {
     CellSet::of_bits((high << u64::BITS) + u128::from(low))
 }
 
+// The place of a pair.
+#[inline(always)]
+fn pair_of(x: u8, y: u8) -> usize {
+    let (x, y) = (x as usize, y as usize);
+    y * y.saturating_sub(1) / 2 + x
+}
+
 impl Held {
-    /// No entries, and room for so many of each of these pairs on boards of this size.
-    pub(crate) fn make(
-        alloc: Global,
-        size: Size,
-        pairs: usize,
-        most: usize,
-    ) -> Result<Held, AllocError> {
+    /// No entries, and room for so many of each pair on boards of this size.
+    pub(crate) fn make(alloc: Global, size: Size, most: usize) -> Result<Held, AllocError> {
+        // Two groups have the edges, and each other element has a cell.
+        let elements = size.cells() as usize + 2;
+        let pairs = elements * (elements - 1) / 2;
         let places = pairs.saturating_mul(most);
         let high_places = if size.cells() <= u64::BITS { 0 } else { places };
-        let counts = vec![in alloc; 0u8; pairs]?;
-        let lows = vec![in alloc; 0u64; places]?;
-        let highs = vec![in alloc; 0u64; high_places]?;
-        let numbers = vec![in alloc; 0u32; places]?;
         Ok(Held {
             most,
-            counts,
-            lows,
-            highs,
-            numbers,
+            counts: vec![in alloc; 0u8; pairs]?,
+            lows: vec![in alloc; 0u64; places]?,
+            highs: vec![in alloc; 0u64; high_places]?,
+            numbers: vec![in alloc; 0u32; places]?,
         })
     }
 
@@ -75,136 +77,120 @@ impl Held {
         self.counts.fill(0);
     }
 
-    /// How many a pair has.
+    /// Whether a pair has none.
     #[inline(always)]
-    pub(crate) fn count(&self, pair: usize) -> usize {
-        usize::from(self.counts.get(pair).copied().unwrap_or(0))
+    pub(crate) fn is_empty(&self, x: u8, y: u8) -> bool {
+        self.places(pair_of(x, y)).is_empty()
     }
 
-    /// The carrier and the number of a pair's entry at a place below the count.
+    /// The numbers of a pair's entries.
     #[inline(always)]
-    pub(crate) fn at(&self, pair: usize, place: usize) -> Option<(CellSet, u32)> {
-        let place = self.first_place(pair).saturating_add(place);
+    pub(crate) fn numbers(&self, x: u8, y: u8) -> &[u32] {
+        let places = self.places(pair_of(x, y));
+        self.numbers.get(places).unwrap_or(&[])
+    }
+
+    /// The number of the first entry of the same pair whose carrier lies inside this one's.
+    #[inline(always)]
+    pub(crate) fn first_inside(&self, entry: &Entry) -> Option<u32> {
+        let places = self.places(pair_of(entry.x, entry.y));
+        if places.is_empty() {
+            return None;
+        }
+        let outside = !low_of(entry.carrier);
+        let lows = self.lows.get(places.start..places.end)?;
+        let place = if self.highs.is_empty() {
+            lows.iter().position(|low| low & outside == 0)?
+        } else {
+            let outside_high = !high_of(entry.carrier);
+            let highs = self.highs.get(places.start..places.end)?;
+            let mut halves = lows.iter().zip(highs.iter());
+            halves.position(|(low, high)| low & outside == 0 && high & outside_high == 0)?
+        };
+        self.numbers.get(places)?.get(place).copied()
+    }
+
+    /// Gives up the entries of the same pair around this one, and puts this one if there is a place
+    /// then: whether there is. If need be, a wider one is given up for that.
+    pub(crate) fn put(&mut self, entry: &Entry, number: u32, states: &mut [State]) -> bool {
+        let pair = pair_of(entry.x, entry.y);
+        let places = self.places(pair);
+        let first = places.start;
+        let mut end = self.give_up_around(places, entry.carrier, states);
+        if end.saturating_sub(first) == self.most {
+            let Some((widest, old)) = self.widest(first..end, entry.carrier.count()) else {
+                return false;
+            };
+            give_up(states, old);
+            end = end.saturating_sub(1);
+            if let Some((carrier, last)) = self.at(end) {
+                self.write(widest, carrier, last);
+            }
+        }
+        self.write(end, entry.carrier, number);
+        let count = u8::try_from(end.saturating_add(1).saturating_sub(first));
+        put_at(&mut self.counts, pair, count.unwrap_or(u8::MAX));
+        true
+    }
+
+    // Gives up those of a pair's entries that are around this carrier: where the others end.
+    fn give_up_around(
+        &mut self,
+        places: Range<usize>,
+        carrier: CellSet,
+        states: &mut [State],
+    ) -> usize {
+        let mut end = places.start;
+        for place in places {
+            if let Some((there, number)) = self.at(place) {
+                if carrier.inside(there) {
+                    give_up(states, number);
+                    continue;
+                }
+                if end < place {
+                    self.write(end, there, number);
+                }
+                end = end.saturating_add(1);
+            }
+        }
+        end
+    }
+
+    // The place and the number of the widest entry at these places, the first of several, if it has
+    // more cells than this.
+    fn widest(&self, places: Range<usize>, cells: u32) -> Option<(usize, u32)> {
+        let mut widest = None;
+        let mut most = cells;
+        for place in places {
+            let (carrier, number) = self.at(place)?;
+            if most < carrier.count() {
+                widest = Some((place, number));
+                most = carrier.count();
+            }
+        }
+        widest
+    }
+
+    // The places of a pair's entries.
+    #[inline(always)]
+    fn places(&self, pair: usize) -> Range<usize> {
+        let first = pair.saturating_mul(self.most);
+        let count = self.counts.get(pair).copied().unwrap_or(0);
+        first..first.saturating_add(usize::from(count))
+    }
+
+    // The carrier and the number at a place.
+    #[inline(always)]
+    fn at(&self, place: usize) -> Option<(CellSet, u32)> {
         let low = *self.lows.get(place)?;
         let high = self.highs.get(place).copied().unwrap_or(0);
         Some((joined(low, high), *self.numbers.get(place)?))
     }
 
-    /// The place of the first entry of a pair whose carrier lies inside this one.
     #[inline(always)]
-    pub(crate) fn first_inside(&self, pair: usize, carrier: CellSet) -> Option<usize> {
-        let count = self.count(pair);
-        if count == 0 {
-            return None;
-        }
-        let first = self.first_place(pair);
-        let end = first.saturating_add(count);
-        let outside = !low_of(carrier);
-        let lows = self.lows.get(first..end)?;
-        if self.highs.is_empty() {
-            return lows.iter().position(|low| low & outside == 0);
-        }
-        let outside_high = !high_of(carrier);
-        let highs = self.highs.get(first..end)?;
-        let mut halves = lows.iter().zip(highs.iter());
-        halves.position(|(low, high)| low & outside == 0 && high & outside_high == 0)
-    }
-
-    // Gives up the entries of a pair around this carrier.
-    fn give_up_around(&mut self, pair: usize, carrier: CellSet, states: &mut [State]) {
-        let count = self.count(pair);
-        let mut kept = 0usize;
-        for place in 0..count {
-            if let Some((there, number)) = self.at(pair, place) {
-                if carrier.inside(there) {
-                    give_up(states, number);
-                    continue;
-                }
-                if kept < place {
-                    self.put(pair, kept, there, number);
-                }
-                kept = kept.saturating_add(1);
-            }
-        }
-        if kept < count {
-            self.set_count(pair, kept);
-        }
-    }
-
-    /// Gives up the entries of a pair around this carrier: whether there is a place then for an
-    /// entry with it. If need be, a wider one is given up for that.
-    pub(crate) fn makes_room(
-        &mut self,
-        pair: usize,
-        carrier: CellSet,
-        states: &mut [State],
-    ) -> bool {
-        self.give_up_around(pair, carrier, states);
-        let count = self.count(pair);
-        if count < self.most {
-            return true;
-        }
-        let Some((widest, number)) = self.widest(pair, carrier.count()) else {
-            return false;
-        };
-        give_up(states, number);
-        let last = count.saturating_sub(1);
-        if let Some((carrier, number)) = self.at(pair, last) {
-            self.put(pair, widest, carrier, number);
-        }
-        self.set_count(pair, last);
-        true
-    }
-
-    /// Puts one more to a pair, if there is a place.
-    pub(crate) fn push(&mut self, pair: usize, carrier: CellSet, number: u32) {
-        let count = self.count(pair);
-        if count < self.most {
-            self.put(pair, count, carrier, number);
-            self.set_count(pair, count.saturating_add(1));
-        }
-    }
-
-    // The place and the number of a pair's widest entry, the first of several, if it has more cells
-    // than this.
-    fn widest(&self, pair: usize, cells: u32) -> Option<(usize, u32)> {
-        let mut best = None;
-        let mut most = cells;
-        for place in 0..self.count(pair) {
-            if let Some((carrier, number)) = self.at(pair, place) {
-                let count = carrier.count();
-                if most < count {
-                    best = Some((place, number));
-                    most = count;
-                }
-            }
-        }
-        best
-    }
-
-    #[inline(always)]
-    fn first_place(&self, pair: usize) -> usize {
-        pair.saturating_mul(self.most)
-    }
-
-    #[inline(always)]
-    fn put(&mut self, pair: usize, place: usize, carrier: CellSet, number: u32) {
-        let place = self.first_place(pair).saturating_add(place);
-        if let Some(low) = self.lows.get_mut(place)
-            && let Some(name) = self.numbers.get_mut(place)
-        {
-            *low = low_of(carrier);
-            *name = number;
-        }
-        if let Some(high) = self.highs.get_mut(place) {
-            *high = high_of(carrier);
-        }
-    }
-
-    #[inline(always)]
-    fn set_count(&mut self, pair: usize, filled: usize) {
-        if let Some(count) = self.counts.get_mut(pair) {
-            *count = u8::try_from(filled).unwrap_or(u8::MAX);
-        }
+    fn write(&mut self, place: usize, carrier: CellSet, number: u32) {
+        put_at(&mut self.lows, place, low_of(carrier));
+        put_at(&mut self.highs, place, high_of(carrier));
+        put_at(&mut self.numbers, place, number);
     }
 }

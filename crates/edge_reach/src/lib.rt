@@ -47,7 +47,7 @@ mod walks;
 
 pub use circuits::FLOW;
 pub use elements::{Cells, cells_of};
-pub use entries::{Cause, End, Entry, MOST_UNITED};
+pub use entries::{End, Entry, MOST_UNITED, Rule};
 pub use found::Limits;
 pub use held::{MOST_FULL, MOST_SEMI};
 pub use reports::{Question, Reach, Until};

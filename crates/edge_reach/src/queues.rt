@@ -3,16 +3,13 @@
 
 use hex_cells::MOST_CELLS;
 use std::alloc::{AllocError, Global};
-
-// A list for each number of cells.
-const LISTS: usize = MOST_CELLS as usize + 1;
+use std::collections::VecDeque;
 
 /// The numbers of entries that wait.
 #[derive(Drop)]
 pub(crate) struct Queue {
-    lists: Vec<Vec<u32>>,
-    // How many of each list were taken.
-    taken: [usize; LISTS],
+    // A list for each number of cells.
+    lists: Vec<VecDeque<u32>>,
     // No list before this one has an entry that waits.
     least: usize,
 }
@@ -20,23 +17,16 @@ pub(crate) struct Queue {
 impl Queue {
     /// An empty queue.
     pub(crate) fn make(alloc: Global) -> Result<Queue, AllocError> {
-        let mut lists = Vec::new(alloc);
-        for _list in 0..LISTS {
-            lists.push(Vec::new(alloc))?;
-        }
+        let lists = (0..=MOST_CELLS).map(|_cells| VecDeque::new(alloc));
         Ok(Queue {
-            lists,
-            taken: [0; LISTS],
+            lists: lists.collect(alloc)?,
             least: 0,
         })
     }
 
     /// Takes all away.
     pub(crate) fn clear(&mut self) {
-        for list in self.lists.iter_mut() {
-            list.clear();
-        }
-        self.taken = [0; LISTS];
+        self.lists.iter_mut().for_each(|list| list.clear());
         self.least = 0;
     }
 
@@ -44,7 +34,7 @@ impl Queue {
     pub(crate) fn put(&mut self, cells: u32, number: u32) -> Result<(), AllocError> {
         let place = cells as usize;
         if let Some(list) = self.lists.get_mut(place) {
-            list.push(number)?;
+            list.push_back(number)?;
             self.least = self.least.min(place);
         }
         Ok(())
@@ -52,13 +42,10 @@ impl Queue {
 
     /// Takes the next one; `None` if none waits.
     pub(crate) fn take(&mut self) -> Option<u32> {
-        for place in self.least..LISTS {
+        for place in self.least..self.lists.len() {
             self.least = place;
-            if let Some(list) = self.lists.get(place)
-                && let Some(number) = list.get(self.taken[place])
-            {
-                self.taken[place] = self.taken[place].saturating_add(1);
-                return Some(*number);
+            if let Some(number) = self.lists.get_mut(place)?.pop_front() {
+                return Some(number);
             }
         }
         None

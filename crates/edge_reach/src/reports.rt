@@ -7,7 +7,7 @@ ghost use Rattle.edge_reach.specs.declared.entries.End.{End};
 
 use super::circuits::currents_of;
 use super::elements::Elements;
-use super::entries::{Cause, End, Entry, MOST_UNITED};
+use super::entries::{End, Entry, MOST_UNITED, Rule};
 use super::found::{Found, Limits};
 use super::walks::Walk;
 use circuit::Mesh;
@@ -62,15 +62,11 @@ pub struct Reach {
 impl Reach {
     /// Memory for reports with these limits on boards of this size.
     pub fn make(alloc: Global, size: Size, limits: Limits) -> Result<Reach, AllocError> {
-        let found = Found::make(alloc, size, limits)?;
-        let mut ways = Vec::new(alloc);
-        for _element in 0..MOST_ELEMENTS {
-            ways.push(Vec::new(alloc))?;
-        }
+        let ways = (0..MOST_ELEMENTS).map(|_element| Vec::new(alloc));
         Ok(Reach {
-            elements: Elements::none(),
-            found,
-            ways,
+            elements: Elements::none(alloc),
+            found: Found::make(alloc, size, limits)?,
+            ways: ways.collect(alloc)?,
             others: Vec::new(alloc),
             united: Vec::new(alloc),
             walk: Walk::make(alloc),
@@ -98,9 +94,9 @@ impl Reach {
         self.found.entries().get(number as usize)
     }
 
-    /// The premises of a cause that has four or more; none of another.
-    pub fn many(&self, cause: Cause) -> &[u32] {
-        self.found.many(cause)
+    /// The numbers of the entries from which one of the report follows.
+    pub fn premises(&self, entry: &Entry) -> &[u32] {
+        self.found.premises(entry)
     }
 
     /// The entries on which one rests, each behind those on which it rests, itself the last.
@@ -124,61 +120,60 @@ impl Reach {
 
     /// Makes the report that answers the question.
     pub fn report(&mut self, question: &Question, until: Until) -> Result<(), AllocError> {
-        self.elements.load(question);
+        self.elements.load(question)?;
         self.found.clear(question.region);
-        for ways in self.ways.iter_mut() {
-            ways.clear();
-        }
+        self.ways.iter_mut().for_each(|ways| ways.clear());
         for element in 1..self.elements.count() {
-            self.add_near(question, element)?;
+            self.add_near(element)?;
         }
         for _taken in 0..u32::MAX {
-            let Some(number) = self.found.take() else {
-                return Ok(());
+            let Some((number, entry)) = self.found.take() else {
+                break;
             };
-            let Some(entry) = self.entry(number).copied() else {
-                return Ok(());
-            };
-            if self.is_enough(&entry, until) {
-                return Ok(());
-            }
             if !entry.is_between_edges() {
                 self.combine(number, &entry)?;
             }
-            if until == Until::Threats && self.found.common().is_empty() {
-                return Ok(());
+            if self.is_enough(&entry, until) {
+                break;
             }
         }
         Ok(())
     }
 
     // Adds the entries of an element and those below it that lie side by side.
-    fn add_near(&mut self, question: &Question, element: usize) -> Result<(), AllocError> {
-        let near = self.elements.near_below(element, question);
-        for below in 0..element.min(MOST_ELEMENTS) {
-            if near >> below & 1 == 1 {
-                let (x, y) = (below as u8, (element % MOST_ELEMENTS) as u8);
-                let entry = Entry::of(Kind::Full, x, y, CellSet::none(), Cause::Adjacent);
-                self.found.add_full(entry)?;
+    fn add_near(&mut self, y: u8) -> Result<(), AllocError> {
+        for x in 0..y {
+            if self.elements.are_near(x, y) {
+                let entry = Entry::of(Kind::Full, x, y, CellSet::none(), Rule::Adjacent);
+                self.found.add(entry, &[])?;
             }
         }
         Ok(())
     }
 
-    // Whether the entry that was taken ends the report.
+    // Whether the report may end behind this entry.
     fn is_enough(&self, entry: &Entry, until: Until) -> bool {
-        entry.is_between_edges()
-            && match until {
-                Until::Closed => false,
-                Until::FirstWin => true,
-                Until::Threats => { entry.kind == Kind::Full || self.found.common().is_empty() }
+        match until {
+            Until::Closed => false,
+            Until::FirstWin => entry.is_between_edges(),
+            Until::Threats => {
+                entry.is_between_edges() && entry.kind == Kind::Full || self.found.common.is_empty()
             }
+        }
     }
 
     // Adds what follows from an entry with those that were taken before it.
     fn combine(&mut self, number: u32, entry: &Entry) -> Result<(), AllocError> {
         match entry.kind {
-            Kind::Semi => self.unite(number, entry),
+            // The rule of OR, with others of its pair.
+            Kind::Semi => {
+                let common = self.found.list_others(entry, number, &mut self.others)?;
+                self.unite_few(number, entry)?;
+                if common.is_empty() {
+                    self.unite_many(number, entry)?;
+                }
+                Ok(())
+            }
             Kind::Full => {
                 self.join(number, entry, entry.y, entry.x)?;
                 self.join(number, entry, entry.x, entry.y)?;
@@ -187,11 +182,14 @@ impl Reach {
         }
     }
 
-    // Says that a full entry leads from each of its elements to the other.
+    // Says that a full entry leads from each of its elements to the other. None is joined at an
+    // edge.
     fn add_ways(&mut self, number: u32, entry: &Entry) -> Result<(), AllocError> {
         let carrier = entry.carrier;
         for (from, to) in [(entry.x, entry.y), (entry.y, entry.x)] {
-            if let Some(ways) = self.ways.get_mut(from as usize) {
+            if 1 < from
+                && let Some(ways) = self.ways.get_mut(from as usize)
+            {
                 ways.push(Way {
                     carrier,
                     number,
@@ -204,39 +202,27 @@ impl Reach {
 
     // The rules of AND: a full entry, from `end` to `middle`, with those that lead on from there.
     fn join(&mut self, number: u32, entry: &Entry, end: u8, middle: u8) -> Result<(), AllocError> {
-        if middle < 2 {
-            return Ok(());
-        }
-        let between = self.elements.alone(middle as usize);
-        let end_cell = self.elements.alone(end as usize);
         let Some(ways) = self.ways.get(middle as usize) else {
             return Ok(());
         };
+        let between = self.elements.alone(middle);
+        let ours = entry.carrier.union(self.elements.alone(end));
         for way in ways {
             if way.to != end
-                && !way.carrier.meets(entry.carrier.union(end_cell))
-                && !self.elements.alone(way.to as usize).meets(entry.carrier)
+                && !way.carrier.meets(ours)
+                && !self.elements.cells(way.to).meets(entry.carrier)
             {
-                let carrier = entry.carrier.union(way.carrier).union(between);
-                if between.is_empty() {
-                    let cause = Cause::And(number, way.number);
-                    let joined = Entry::of(Kind::Full, end, way.to, carrier, cause);
-                    self.found.add_full(joined)?;
+                let (kind, rule) = if between.is_empty() {
+                    (Kind::Full, Rule::And)
                 } else {
-                    let cause = Cause::Key(number, way.number);
-                    let joined = Entry::of(Kind::Semi, end, way.to, carrier, cause);
-                    self.found.add_semi(joined)?;
-                }
+                    (Kind::Semi, Rule::Key)
+                };
+                let carrier = entry.carrier.union(way.carrier).union(between);
+                let joined = Entry::of(kind, end, way.to, carrier, rule);
+                self.found.add(joined, &[number, way.number])?;
             }
         }
         Ok(())
-    }
-
-    // The rule of OR: a semi entry with others of its pair.
-    fn unite(&mut self, number: u32, entry: &Entry) -> Result<(), AllocError> {
-        self.list_others(number, entry)?;
-        self.unite_few(number, entry)?;
-        self.unite_many(number, entry)
     }
 
     // The rule of OR with one or two others.
@@ -246,47 +232,26 @@ impl Reach {
             let common = entry.carrier.meet(*carrier);
             let both = entry.carrier.union(*carrier);
             if common.is_empty() {
-                let cause = Cause::Or2(number, *second);
-                let united = Entry::of(Kind::Full, x, y, both, cause);
-                self.found.add_full(united)?;
+                let united = Entry::of(Kind::Full, x, y, both, Rule::Or);
+                self.found.add(united, &[number, *second])?;
                 continue;
             }
             for (carrier, third) in self.others.iter().take(place) {
                 if !common.meets(*carrier) {
-                    let cause = Cause::Or3(number, *second, *third);
-                    let united = Entry::of(Kind::Full, x, y, both.union(*carrier), cause);
-                    self.found.add_full(united)?;
+                    let united = Entry::of(Kind::Full, x, y, both.union(*carrier), Rule::Or);
+                    self.found.add(united, &[number, *second, *third])?;
                 }
             }
         }
         Ok(())
     }
 
-    // The rule of OR with three or more others, if all together have no cell in common: one entry,
-    // by greed.
+    // The rule of OR with three or more others, until all together have no cell in common: one
+    // entry, by greed, if it takes at most [`MOST_UNITED`].
     fn unite_many(&mut self, number: u32, entry: &Entry) -> Result<(), AllocError> {
-        let mut common = entry.carrier;
-        for (carrier, _other) in &self.others {
-            common = common.meet(*carrier);
-        }
-        if !common.is_empty() {
-            return Ok(());
-        }
-        if let Some(carrier) = self.gather(number, entry)?
-            && 3 < self.united.len()
-        {
-            self.found
-                .add_united(entry.x, entry.y, carrier, &self.united)?;
-        }
-        Ok(())
-    }
-
-    // Gathers semi entries of the pair, this one first, until they have no cell in common: their
-    // carriers together. `None` if [`MOST_UNITED`] still have one.
-    fn gather(&mut self, number: u32, entry: &Entry) -> Result<Option<CellSet>, AllocError> {
+        let (mut common, mut union) = (entry.carrier, entry.carrier);
         self.united.clear();
         self.united.push(number)?;
-        let (mut common, mut union) = (entry.carrier, entry.carrier);
         for _other in 1..MOST_UNITED {
             let Some((carrier, other)) = best_beside(&self.others, common, union) else {
                 break;
@@ -295,19 +260,9 @@ impl Reach {
             union = union.union(carrier);
             self.united.push(other)?;
         }
-        Ok(common.is_empty().then_some(union))
-    }
-
-    // Lists the semi entries of the pair that were taken before.
-    fn list_others(&mut self, number: u32, entry: &Entry) -> Result<(), AllocError> {
-        self.others.clear();
-        for place in 0..self.found.semi_count(entry.x, entry.y) {
-            if let Some((carrier, other)) = self.found.semi(entry.x, entry.y, place)
-                && other != number
-                && self.found.is_taken(other)
-            {
-                self.others.push((carrier, other))?;
-            }
+        if common.is_empty() && 3 < self.united.len() {
+            let united = Entry::of(Kind::Full, entry.x, entry.y, union, Rule::Or);
+            self.found.add(united, &self.united)?;
         }
         Ok(())
     }

@@ -1,5 +1,6 @@
 //! Derivations: the entries on which an entry rests.
 
+use super::entries::put_at;
 use super::found::Found;
 use std::alloc::{AllocError, Global};
 
@@ -33,10 +34,8 @@ impl Walk {
     /// The entries on which one rests, each behind those on which it rests, the one itself the
     /// last.
     pub(crate) fn walk(&mut self, found: &Found, number: u32) -> Result<&[u32], AllocError> {
-        let count = found.entries().len();
-        if self.seen.len() < count {
-            self.seen.resize(count, false)?;
-        }
+        let count = found.entries().len().max(self.seen.len());
+        self.seen.resize(count, false)?;
         self.order.clear();
         self.open.clear();
         self.open.push(Step::Enter(number))?;
@@ -47,35 +46,25 @@ impl Walk {
                 Some(Step::Enter(number)) => self.enter(found, number)?,
             }
         }
-        self.forget();
+        // The next walk begins with nothing seen.
+        for number in self.order.iter() {
+            put_at(&mut self.seen, *number as usize, false);
+        }
         Ok(&self.order)
     }
 
     // Opens the premises of an entry that was not seen.
     fn enter(&mut self, found: &Found, number: u32) -> Result<(), AllocError> {
-        let Some(entry) = found.entries().get(number as usize) else {
-            return Ok(());
-        };
-        match self.seen.get_mut(number as usize) {
-            Some(seen) if !*seen => *seen = true,
-            _ => return Ok(()),
-        }
-        self.open.push(Step::Leave(number))?;
-        for premise in found.many(entry.cause).iter().rev() {
-            self.open.push(Step::Enter(*premise))?;
-        }
-        for premise in entry.cause.premises().into_iter().flatten().rev() {
-            self.open.push(Step::Enter(premise))?;
-        }
-        Ok(())
-    }
-
-    // Nothing was seen.
-    fn forget(&mut self) {
-        for number in self.order.iter() {
-            if let Some(seen) = self.seen.get_mut(*number as usize) {
-                *seen = false;
+        if let Some(entry) = found.entries().get(number as usize)
+            && let Some(seen) = self.seen.get_mut(number as usize)
+            && !*seen
+        {
+            *seen = true;
+            self.open.push(Step::Leave(number))?;
+            for premise in found.premises(entry).iter().rev() {
+                self.open.push(Step::Enter(*premise))?;
             }
         }
+        Ok(())
     }
 }

@@ -1,11 +1,11 @@
 //! An entry between a player's edges.
 
 ghost use Rattle.std.specs.Prelude.{◌≡◌, OnOk, filter, not};
-ghost use Rattle.edge_tables.specs.Entries.{amount_by, is_inside, is_report, makes_needless};
-ghost use Rattle.edge_tables.specs.Entries.{newest_beside, with_lines_at};
+ghost use Rattle.edge_tables.specs.Entries.{is_inside, makes_needless};
+ghost use Rattle.edge_tables.specs.Entries.{newest_beside, width};
 
 use conn_store::Kind;
-use hex_cells::{Cell, CellSet, Colour};
+use hex_cells::{CellSet, Colour};
 use std::alloc::AllocError;
 use std::hash::{Hash, Hasher};
 
@@ -32,17 +32,6 @@ impl Hash for Key {
     }
 }
 
-/// How an entry came.
-#[derive(Clone, Copy, Debug, PartialEq, Eq)]
-pub enum Origin {
-    /// It is in the player's report in which the cells of this set are empty.
-    Report(CellSet),
-    /// By the player's stone on the cell.
-    Move(Cell),
-    /// By other entries, one for each stone of the opponent's.
-    Cases,
-}
-
 /// An entry between a player's edges. It stands wherever he has the stones of its key and its
 /// carrier is empty, whatever stones the opponent has.
 #[derive(Clone, Copy, Debug, PartialEq, Eq)]
@@ -50,35 +39,17 @@ pub struct EdgeEntry {
     pub carrier: CellSet,
     /// About how many lines of a certificate show it.
     pub lines: u32,
-    pub origin: Origin,
-}
-
-/// What the best of several entries has least of.
-#[derive(Clone, Copy, Debug, PartialEq, Eq)]
-pub enum Measure {
-    /// Lines.
-    Lines,
-    /// Cells in its carrier, and of as many cells lines.
-    Cells,
+    /// Whether it is in a report of H-search; else it came by a stone, or by cases.
+    pub is_reported: bool,
 }
 
 impl EdgeEntry {
-    /// Whether it is in a report.
-    pub fn is_reported(&self) -> bool
-        ensures { result ≡ is_report self.now.origin }
-    {
-        matches!(self.origin, Origin::Report(_))
-    }
-
-    /// How much it has of what is measured.
-    pub fn amount(&self, measure: Measure) -> u64
-        ensures { result ≡ amount_by measure self.now }
+    /// How wide it is: by the cells of its carrier, and of as many cells by its lines.
+    pub fn width(&self) -> u64
+        ensures { result ≡ width self.now }
     {
         let lines = u64::from(self.lines);
-        match measure {
-            Measure::Lines => lines,
-            Measure::Cells => u64::from(self.carrier.count()) * (1 << u32::BITS) + lines,
-        }
+        u64::from(self.carrier.count()) * (1 << u32::BITS) + lines
     }
 
     /// Whether its carrier lies inside the region.
@@ -104,7 +75,7 @@ impl EdgeEntry {
 
 /// Adds an entry at the end, and takes away those that it makes needless. If memory runs out, those
 /// may be gone and the entry not there.
-pub fn add_last(list: &mut Vec<EdgeEntry>, entry: &EdgeEntry) -> Result<(), AllocError>
+pub(crate) fn add_last(list: &mut Vec<EdgeEntry>, entry: &EdgeEntry) -> Result<(), AllocError>
     ensures { OnOk result (list.new.items ≡ newest_beside entry.now list.old.items) }
 {
     list.retain(|old| !entry.makes_needless(old));
@@ -112,16 +83,7 @@ pub fn add_last(list: &mut Vec<EdgeEntry>, entry: &EdgeEntry) -> Result<(), Allo
     list.push(EdgeEntry {
         carrier: entry.carrier,
         lines: entry.lines,
-        origin: entry.origin,
+        is_reported: entry.is_reported,
     })?;
     Ok(())
-}
-
-/// Says how many lines the entry at a place has.
-pub fn set_lines_at(list: &mut Vec<EdgeEntry>, place: usize, lines: u32)
-    ensures { list.new.items ≡ with_lines_at place lines list.old.items }
-{
-    if place < list.len() {
-        list[place].lines = lines;
-    }
 }

@@ -3,36 +3,33 @@
 //!
 //! **Nouns.** An *entry* is one of a player's between his edges, semi or full: with these stones he
 //! joins them inside its *carrier*, whatever stones the opponent has. Its *key* is of whom it
-//! speaks: the player, who of the two may move first, and his stones. Its *origin* is how it came.
-//! A *cover* is of few carriers that have no cell in common, so that each stone of the opponent's
-//! is answered by one of them.
+//! speaks: the player, who of the two may move first, and his stones. A *cover* is of few carriers
+//! that have no cell in common, so that each stone of the opponent's is answered by one of them.
 //!
 //! **A caller** makes [`Tables`], puts what he found ([`Tables::put`]), and asks whether there is
-//! an entry inside a region ([`Tables::has`]), which is best ([`Tables::least`]), and what all have
-//! in common ([`Tables::common`]). [`cover`] picks the cases of a full entry.
+//! an entry inside a region ([`Tables::has`]), which is the narrowest ([`Tables::narrowest`]), and
+//! what all have in common ([`Tables::common`]). [`by_cases`] makes a full entry of semi ones by a
+//! [`cover`], and [`Costs`] say which covers are cheap.
 //!
 //! **What is proved.** That each call is safe and ends, what a reading call answers of the entries
 //! that are there (`entries_of`, specs/Entries.antt), and what is there after a writing one.
 //! [`Tables::entries`] answers those of a key, [`Tables::has`] whether one lies inside the region,
 //! [`Tables::list`] exactly these, the newest first, [`Tables::common`] exactly the cells of the
-//! region that these have in common, and [`Tables::least`] one of these such that none has less, or
-//! `None` exactly if there is none. New tables have none. [`Tables::put`] leaves the entries of
-//! each other key, and of its own key all but those that the new entry makes needless, with it as
-//! the newest, or all as they are if one of them makes it needless (`with_newest`).
+//! region that these have in common, and [`Tables::narrowest`] one of these such that none is
+//! narrower, or `None` exactly if there is none. New tables have none. [`Tables::put`] leaves the
+//! entries of each other key, and of its own key all but those that the new entry makes needless,
+//! with it as the newest, or all as they are if one of them makes it needless (`with_newest`).
 //! [`Tables::put_all`] does so with each entry of each of the player's keys (`ArePut`), and leaves
-//! the entries of the other player. [`Tables::scopes`] answers the stones of the player's keys that
-//! have a list, and no others. [`Tables::set_lines`] changes the lines of one entry, and nothing
-//! else. A full table stays as it was. The places of a [`cover`] are places of the list, not one
-//! alone, and its carriers have no cell of the region in common; [`choices_of`] and [`together`]
-//! are exact. So are [`EdgeEntry::amount`] and [`EdgeEntry::is_reported`]. Nothing says that an
-//! entry is true: a certificate that is made of them is checked.
+//! the entries of the other player. A full table stays as it was. The places of a [`cover`] are
+//! places of the list, not one alone, and its carriers have no cell of the region in common. What
+//! [`by_cases`] makes has the cells and lines of entries whose carriers are such a cover
+//! (`IsByCases`, specs/Covers.antt). [`EdgeEntry::width`] is exact. Nothing says that an entry is
+//! true: a certificate that is made of them is checked.
 //!
 //! **What is only tested, or not said.** When a table is full: a body that always says so is
-//! proved. What the key of a call that failed has: [`Tables::scopes`] may answer its stones. The
-//! order that [`Tables::scopes`] answers, and that it answers them once. Which of several with as
-//! little [`Tables::least`] answers (the newest), and which of several covers is chosen; a body of
-//! [`cover`] that always answers none is proved. Any call that takes memory may say that it ran
-//! out.
+//! proved. Which of several that are as narrow [`Tables::narrowest`] answers (the newest), and
+//! which of several covers is chosen; a body of [`cover`] that always answers none is proved. Any
+//! call that takes memory may say that it ran out.
 //!
 //! **Limits.** 2,000,000 entries. A full table ends a search like a spent budget.
 //!
@@ -47,12 +44,14 @@
 //! - The maps are the kit's, which keep the order of insertion, so that one search has one result.
 #![tactic(auto)]
 
+mod cases;
 mod covers;
 mod entries;
 mod stops;
 mod tables;
 
-pub use covers::{Choice, Saving, choices_of, cover, together};
-pub use entries::{EdgeEntry, Key, Measure, Origin};
+pub use cases::by_cases;
+pub use covers::{Costs, cost_of, cover};
+pub use entries::{EdgeEntry, Key};
 pub use stops::FinderStop;
 pub use tables::Tables;

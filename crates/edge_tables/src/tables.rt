@@ -1,14 +1,13 @@
 //! Entries between the edges of each player, by his stones.
 
-ghost use Rattle.std.specs.Prelude.{◌≡◌, ◌↔◌, ℕ, [], filter, reverse, Contains, IfOk, IsSome, OnOk};
+ghost use Rattle.std.specs.Prelude.{◌≡◌, ℕ, [], filter, reverse, IfOk, IsSome, OnOk};
 ghost use Rattle.std.specs.List.{list_any};
 ghost use Rattle.hex_cells.specs.Sets.{has};
-ghost use Rattle.edge_tables.specs.Entries.{AgreeBut, AgreeOnOther, ArePut, IsLeastInside};
+ghost use Rattle.edge_tables.specs.Entries.{AgreeBut, AgreeOnOther, ArePut, IsNarrowestInside};
 ghost use Rattle.edge_tables.specs.Entries.{entries_of, is_common, is_inside, list_of};
-ghost use Rattle.edge_tables.specs.Entries.{key_stones, makes_needless, newest_beside};
-ghost use Rattle.edge_tables.specs.Entries.{with_each, with_lines_at, with_newest};
+ghost use Rattle.edge_tables.specs.Entries.{makes_needless, newest_beside, with_each, with_newest};
 
-use super::entries::{EdgeEntry, Key, Measure, add_last, set_lines_at};
+use super::entries::{EdgeEntry, Key, add_last};
 use super::stops::FinderStop;
 use hex_cells::{CellSet, Colour};
 use indexmap::IndexMap;
@@ -70,17 +69,17 @@ impl Tables {
         common
     }
 
-    /// The entry of the key inside the region that has least, the newest of several.
-    pub fn least(&self, key: &Key, region: CellSet, measure: Measure) -> Option<EdgeEntry>
-        ensures { IsLeastInside measure region (entries_of self.now key.now) result }
+    /// The entry of the key inside the region that is the narrowest, the newest of several.
+    pub fn narrowest(&self, key: &Key, region: CellSet) -> Option<EdgeEntry>
+        ensures { IsNarrowestInside region (entries_of self.now key.now) result }
     {
         let entries = self.entries(key);
         let mut best: Option<EdgeEntry> = None;
         let mut least = u64::MAX;
         for entry in entries {
-            if entry.lies_inside(region) && entry.amount(measure) <= least {
+            if entry.lies_inside(region) && entry.width() <= least {
                 best = Some(*entry);
-                least = entry.amount(measure);
+                least = entry.width();
             }
         }
         best
@@ -181,35 +180,5 @@ impl Tables {
             self.put(key, entry)?;
         }
         Ok(())
-    }
-
-    /// The sets of stones for which a player has entries, those with the most stones first.
-    pub fn scopes(&self, alloc: Global, player: Colour) -> Result<Vec<CellSet>, AllocError>
-        ensures { let stones = key_stones self.now player in
-            IfOk result (λ list. (s : ℕ) → Contains list.items s ↔ Contains stones s) }
-    {
-        let mut list = self.stones(alloc, player)?;
-        list.sort_unstable_by_key(|stones| (u32::MAX - stones.count(), stones.bits()));
-        list.dedup();
-        Ok(list)
-    }
-
-    // The stones of each key of a player.
-    fn stones(&self, alloc: Global, player: Colour) -> Result<Vec<CellSet>, AllocError>
-        ensures { IfOk result (λ list. list.items ≡ key_stones self.now player) }
-    {
-        let keys = self.known.keys().filter(|key| key.player == player);
-        keys.map(|key| key.stones).collect(alloc)
-    }
-
-    /// Says how many lines the entry at a place of a key has.
-    pub fn set_lines(&mut self, key: &Key, place: usize, lines: u32)
-        ensures set { let es = entries_of self.old key.now in
-            entries_of self.new key.now ≡ with_lines_at place lines es }
-        ensures aside { AgreeBut key.now self.old self.new }
-    {
-        if let Some(list) = self.known.get_mut(key) {
-            set_lines_at(list, place, lines);
-        }
     }
 }

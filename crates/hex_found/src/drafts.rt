@@ -7,8 +7,8 @@ use hex_cells::{Cell, CellSet, Colour};
 use indexmap::IndexMap;
 use std::alloc::{AllocError, Global};
 
-/// The most needs of a draft: more than a certificate may have lines.
-const MOST_NEEDS: usize = 1_000_000;
+/// The most needs of a draft, and so the most scopes: more than a certificate may have lines.
+pub(crate) const MOST_NEEDS: usize = 1_000_000;
 
 /// A line of a scope, by the list where it stands, and its place there.
 #[derive(Clone, Copy, Debug, PartialEq, Eq)]
@@ -137,9 +137,9 @@ impl Draft {
     }
 
     /// Says of needs which line shows them.
-    pub(crate) fn serve(&mut self, needs: &[usize], line: At) {
-        for place in needs {
-            if let Some(need) = self.needs.get_mut(*place) {
+    pub(crate) fn serve(&mut self, needs: &[Need], line: At) {
+        for need in needs {
+            if let Some(need) = self.needs.get_mut(need.place) {
                 need.line = Some(line);
             }
         }
@@ -163,7 +163,7 @@ impl Draft {
 impl Block {
     /// How many lines the scope has.
     pub(crate) fn line_count(&self) -> usize {
-        let derived = self.pool.chosen().iter().filter(|chosen| **chosen).count();
+        let derived = self.pool.chosen.iter().filter(|chosen| **chosen).count();
         derived
             .saturating_add(self.moves.len())
             .saturating_add(self.cases.len())

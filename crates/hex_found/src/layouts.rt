@@ -2,8 +2,8 @@
 
 use super::certificates::claim_for;
 use super::drafts::{At, Block, Draft};
-use super::pools::{Places, Rule, Step};
-use edge_reach::End;
+use super::pools::{Places, Step};
+use edge_reach::{End, Rule};
 use hex_cells::{Cell, MOST_CELLS};
 use hex_scout::State;
 use std::alloc::{AllocError, Global};
@@ -56,7 +56,7 @@ fn layouts_of(draft: &Draft) -> Result<Vec<Layout>, AllocError> {
 fn layout_of(alloc: Global, block: &Block, first: usize) -> Result<Layout, AllocError> {
     let mut derived = Vec::new(alloc);
     let mut next = first;
-    for is_chosen in block.pool.chosen() {
+    for is_chosen in block.pool.chosen.iter() {
         derived.push(next)?;
         next = next.saturating_add(usize::from(*is_chosen));
     }
@@ -91,7 +91,7 @@ fn push_block(
     layout: &Layout,
     lines: &mut Vec<Line>,
 ) -> Result<(), AllocError> {
-    for (step, is_chosen) in block.pool.steps().iter().zip(block.pool.chosen().iter()) {
+    for (step, is_chosen) in block.pool.steps.iter().zip(block.pool.chosen.iter()) {
         if *is_chosen {
             lines.push(line_of(draft.alloc, layout, *step)?)?;
         }

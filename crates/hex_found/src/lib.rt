@@ -39,8 +39,8 @@
 //! **Why so.**
 //!
 //! - Find, then check: the search needs no proof, and can change without a promise.
-//! - The entries of a report are derived anew, by reports with many, with few and with very few
-//!   entries of a pair: fewer entries make shorter derivations.
+//! - The entries of a report are derived anew, by a report in the region of each need that keeps as
+//!   many entries of a pair as one may, and of equal ones that with fewer lines.
 //! - Who asks [`find`] wants to play: so a claim is served by a stone. If the search ended before
 //!   it knew one, H-search finds it inside the carrier of the entry that decided.
 //! - If the certificate has more lines than one may have, short proofs are looked for where it is
@@ -57,12 +57,10 @@ mod drafts;
 mod layouts;
 mod pools;
 mod prices;
-mod recounts;
 mod refusals;
 mod scenes;
 mod seeking;
 mod tasks;
-mod weights;
 
 pub use certificates::{certified, find};
 pub use refusals::Memory;

@@ -1,9 +1,8 @@
 //! What it costs to show something in a scope, beside what is to be written there already.
 
-use super::drafts::Draft;
-use super::pools::{Derived, fresh};
-use conn_store::Kind;
-use edge_tables::{EdgeEntry, Tables};
+use super::drafts::{Draft, Need};
+use super::pools::Derived;
+use edge_tables::EdgeEntry;
 use hex_cells::{Cell, CellSet};
 
 /// A line costs so much.
@@ -37,6 +36,11 @@ impl Way {
         matches!(self.by, By::Stone(_, _))
     }
 
+    /// Whether it serves a semi need.
+    pub(crate) fn serves(&self, need: &Need) -> bool {
+        self.carrier.inside(need.region)
+    }
+
     /// What it costs beside the lines that are chosen.
     pub(crate) fn cost(&self, chosen: &[bool], have: &[Derived]) -> u64 {
         match self.by {
@@ -50,31 +54,16 @@ impl Way {
 
 /// What a derivation costs beside the lines that are chosen.
 pub(crate) fn derived_cost(chosen: &[bool], derived: &Derived) -> u64 {
-    LINE.saturating_mul(fresh(chosen, &derived.places) as u64)
+    let is_fresh = |place: &&usize| !chosen.get(**place).copied().unwrap_or(false);
+    let fresh = derived.places.iter().filter(is_fresh).count();
+    LINE.saturating_mul(fresh as u64)
 }
 
 /// What a stone costs that leads to the scope with these stones, by this full entry.
-pub(crate) fn stone_price(
-    tables: &Tables,
-    draft: &Draft,
-    stones: CellSet,
-    full: &EdgeEntry,
-) -> u64 {
-    let Some(block) = draft.blocks.get(&stones.bits()) else {
-        return NEW_SCOPE + u64::from(full.lines) * OF_ENTRY + LINE;
-    };
-    // Whether a need may be served together with one of such an entry.
-    let key = draft.key(Kind::Full, stones);
-    let joins = |region: CellSet| {
-        full.carrier.inside(region) || tables.has(&key, region.meet(full.carrier))
-    };
-    let mut needs = block
-        .needs
-        .iter()
-        .filter_map(|place| draft.needs.get(*place));
-    if needs.any(|need| need.kind == Kind::Full && joins(need.region)) {
+pub(crate) fn stone_price(draft: &Draft, stones: CellSet, full: &EdgeEntry) -> u64 {
+    if draft.blocks.contains_key(&stones.bits()) {
         2 * LINE
     } else {
-        NEW_SCOPE / 2 + LINE
+        NEW_SCOPE + u64::from(full.lines) * OF_ENTRY
     }
 }

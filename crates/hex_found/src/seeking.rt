@@ -6,7 +6,6 @@ use super::assemblies::assemble;
 use super::derivers::Deriver;
 use super::drafts::Draft;
 use super::layouts::cert_of;
-use super::recounts::recount;
 use super::refusals::Memory;
 use super::tasks::{Task, tasks_of};
 use edge_tables::FinderStop;
@@ -24,22 +23,17 @@ pub struct Sought {
     pub by_mover: Option<bool>,
     /// How many states it entered, all searches together.
     pub entered: u64,
-    /// How many lines the certificate has; 0 if there is none.
-    pub lines: usize,
     /// The certificate, not yet checked.
     pub cert: Option<Cert>,
 }
 
 // A pass over the dear places of a draft enters so many states for each at first, four times as
-// many if that found little, and at most as many as that three times; what all needs of a scope
-// have in common may take eight times as many. By trial.
+// many if that found little, and at most as many as that three times. By trial.
 const FIRST_STATES: u64 = 1;
 
 const MORE_STATES: u64 = 4;
 
 const MOST_STATES: u64 = 16;
-
-const COMMON_STATES: u64 = 8;
 
 // The most passes.
 const MOST_PASSES: usize = 20;
@@ -58,7 +52,6 @@ struct Work {
     // With how many states it was tried to show something: its stones and region.
     tried: IndexMap<(u128, u128), u64>,
     best: Option<Draft>,
-    lines: usize,
     // How many lines are wanted.
     wanted: usize,
 }
@@ -85,7 +78,6 @@ pub fn seek(
     let mut sought = Sought {
         by_mover: None,
         entered: 0,
-        lines: 0,
         cert: None,
     };
     if board.winner().is_some() {
@@ -109,52 +101,16 @@ fn search(
     ensures within { sought.new.entered ≤ budget }
 {
     let mut search = Search::make(alloc, root.board.size(), Order::best())?;
-    match decide(&mut search, root, budget, sought)? {
-        Some(player) => make_cert(alloc, search, root, player, budget, wanted, sought),
-        None => Ok(()),
-    }
-}
-
-// Decides who wins, and if the mover does looks for a stone by which he does.
-fn decide(
-    search: &mut Search,
-    root: &State,
-    budget: u64,
-    sought: &mut Sought,
-) -> Result<Option<Colour>, FinderStop>
-    requires none { sought.old.entered ≡ 0 }
-    ensures within { sought.new.entered ≤ budget }
-{
     let outcome = search.decide(root, budget);
     sought.entered = outcome.entered;
     sought.by_mover = outcome.by_mover?;
-    match sought.by_mover {
-        Some(true) => {
-            sought.entered += search.look_for_stone(root, budget - sought.entered)?;
-            Ok(Some(root.mover))
-        }
-        Some(false) => Ok(Some(root.mover.other())),
-        None => Ok(None),
-    }
-}
-
-// Makes a certificate that the player wins, of what was found.
-fn make_cert(
-    alloc: Global,
-    search: Search,
-    root: &State,
-    player: Colour,
-    budget: u64,
-    wanted: usize,
-    sought: &mut Sought,
-) -> Result<(), FinderStop>
-    requires within { sought.old.entered ≤ budget }
-    ensures within { sought.new.entered ≤ budget }
-{
+    let player = match sought.by_mover {
+        Some(true) => root.mover,
+        Some(false) => root.mover.other(),
+        None => return Ok(()),
+    };
     let mut work = Work::make(alloc, search, root, player, wanted)?;
-    let end = work.shorten(budget, &mut sought.entered);
-    work.put_cert(sought)?;
-    end
+    work.make_cert(budget, sought)
 }
 
 impl Work {
@@ -175,20 +131,20 @@ impl Work {
             deriver,
             tried: IndexMap::new(alloc),
             best: None,
-            lines: usize::MAX,
             wanted,
         })
     }
 
-    // Makes a certificate of the shortest draft.
-    fn put_cert(&self, sought: &mut Sought) -> Result<(), FinderStop>
-        ensures kept { sought.new.entered ≡ sought.old.entered }
+    // Makes a certificate of the shortest draft that it comes to.
+    fn make_cert(&mut self, budget: u64, sought: &mut Sought) -> Result<(), FinderStop>
+        requires within { sought.old.entered ≤ budget }
+        ensures within { sought.new.entered ≤ budget }
     {
+        let end = self.shorten(budget, &mut sought.entered);
         if let Some(draft) = self.best.as_ref() {
             sought.cert = Some(cert_of(draft, &self.root)?);
-            sought.lines = self.lines;
         }
-        Ok(())
+        end
     }
 
     // Makes drafts, of what was found and of what searches by other orders find, until one has no
@@ -203,7 +159,7 @@ impl Work {
         self.draft()?;
         self.polish(FIRST_STATES, budget, entered)?;
         for order in Order::others() {
-            if self.lines <= self.wanted {
+            if self.lines() <= self.wanted {
                 return Ok(());
             }
             let states = first.min(budget - *entered);
@@ -221,13 +177,13 @@ impl Work {
     {
         let mut states = FIRST_STATES;
         'passes: for _pass in 0..MOST_PASSES {
-            if self.lines <= self.wanted || most < states || budget <= *entered {
+            if self.lines() <= self.wanted || most < states || budget <= *entered {
                 return Ok(());
             }
-            let before = self.lines;
+            let before = self.lines();
             self.show_tasks(states, budget, entered)?;
             self.draft()?;
-            if before.saturating_mul(LITTLE) / 100 <= self.lines {
+            if before.saturating_mul(LITTLE) / 100 <= self.lines() {
                 states = states.saturating_mul(MORE_STATES);
             }
         }
@@ -243,12 +199,7 @@ impl Work {
             return Ok(());
         };
         for task in tasks_of(draft)? {
-            let most = if task.is_common {
-                states.saturating_mul(COMMON_STATES)
-            } else {
-                states
-            };
-            *entered += self.try_task(&task, most.min(budget - *entered))?;
+            *entered += self.try_task(&task, states.min(budget - *entered))?;
         }
         Ok(())
     }
@@ -280,27 +231,27 @@ impl Work {
         let outcome = other.decide(&self.root, states);
         match outcome.by_mover {
             Err(FinderStop::Memory) => return Err(FinderStop::Memory),
-            _ => self
-                .search
-                .tables_mut()
-                .put_all(other.tables(), self.player)?,
+            _ => (self.search.tables).put_all(&other.tables, self.player)?,
         }
         Ok(outcome.entered)
     }
 
     // Makes a draft of what was found, and keeps it if it is the first or shorter.
     fn draft(&mut self) -> Result<(), FinderStop> {
-        recount(self.alloc, self.search.tables_mut(), self.player)?;
-        let (tables, deriver) = (self.search.tables(), &mut self.deriver);
+        let (tables, deriver) = (&self.search.tables, &mut self.deriver);
         let draft = match assemble(self.alloc, deriver, tables, &self.root, self.player) {
             Err(FinderStop::NoWay) => return Ok(()),
             made => made?,
         };
-        let lines = draft.line_count();
-        if lines < self.lines {
-            self.lines = lines;
+        if draft.line_count() < self.lines() {
             self.best = Some(draft);
         }
         Ok(())
+    }
+
+    // How many lines the shortest draft has.
+    fn lines(&self) -> usize {
+        let draft = self.best.as_ref();
+        draft.map_or(usize::MAX, |draft| draft.line_count())
     }
 }

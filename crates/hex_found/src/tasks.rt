@@ -2,11 +2,11 @@
 
 use super::drafts::{Block, Draft};
 use super::prices::LINE;
-use super::weights::{Weights, weights_of};
 use conn_store::Kind;
 use edge_reach::cells_of;
 use hex_board::Board;
 use hex_cells::{CellSet, Colour, Size};
+use indexmap::IndexMap;
 use std::alloc::AllocError;
 
 // A stone is dear if the scope to which it leads costs so much a use.
@@ -18,8 +18,6 @@ const DEAR: u64 = 100 * LINE;
 pub(crate) struct Task {
     pub stones: CellSet,
     pub region: CellSet,
-    /// Whether it would serve several needs of a scope.
-    pub is_common: bool,
 }
 
 impl Task {
@@ -36,57 +34,55 @@ impl Task {
     }
 }
 
-/// What would make the draft shorter: for each scope what all its full needs have in common, and
-/// in place of each dear stone every other one, those of scopes with many stones first.
+/// What would make the draft shorter: in place of each dear stone every other one, those of scopes
+/// with many stones first.
 pub(crate) fn tasks_of(draft: &Draft) -> Result<Vec<Task>, AllocError> {
-    let weights = weights_of(draft)?;
     let mut tasks = Vec::new(draft.alloc);
+    // What scopes cost a use, by the bits of their stones: their lines, and what those cost to
+    // which their stones lead.
+    let mut weights = IndexMap::new(draft.alloc);
     for block in draft.blocks.values().rev() {
-        list_common(draft, block, &mut tasks)?;
-    }
-    for block in draft.blocks.values().rev() {
-        list_dear(&weights, block, &mut tasks)?;
+        let cost = list_dear(&weights, block, &mut tasks)?;
+        weights.insert(block.stones.bits(), cost / uses_of(draft, block).max(1))?;
     }
     Ok(tasks)
 }
 
-// Lists what all full needs of a scope have in common, if their regions differ.
-fn list_common(draft: &Draft, block: &Block, tasks: &mut Vec<Task>) -> Result<(), AllocError> {
-    let mut union = CellSet::none();
-    let mut common = CellSet::all(Size::LARGEST);
-    for need in block
-        .needs
-        .iter()
-        .filter_map(|place| draft.needs.get(*place))
-    {
-        if need.kind == Kind::Full {
-            union = union.union(need.region);
-            common = common.meet(need.region);
+// Lists what would do in place of a scope's dear stones, and answers what the scope costs.
+fn list_dear(
+    weights: &IndexMap<u128, u64>,
+    block: &Block,
+    tasks: &mut Vec<Task>,
+) -> Result<u64, AllocError> {
+    let lines = block.line_count().saturating_add(1) as u64;
+    let mut cost = lines.saturating_mul(LINE);
+    for stone in block.moves.iter() {
+        let weight = weights.get(&block.stones.with(stone.cell).bits());
+        let weight = weight.copied().unwrap_or(0);
+        cost = cost.saturating_add(weight);
+        if DEAR <= weight {
+            list_others(block.stones, stone.wide, tasks)?;
         }
     }
-    if !union.is_empty() && common != union {
+    Ok(cost)
+}
+
+// Lists that the player wins inside the region by a stone on each of its cells.
+fn list_others(stones: CellSet, region: CellSet, tasks: &mut Vec<Task>) -> Result<(), AllocError> {
+    for cell in cells_of(region) {
         tasks.push(Task {
-            stones: block.stones,
-            region: common,
-            is_common: true,
+            stones: stones.with(cell),
+            region: region.without(cell),
         })?;
     }
     Ok(())
 }
 
-// Lists the stones that would do in place of dear ones.
-fn list_dear(weights: &Weights, block: &Block, tasks: &mut Vec<Task>) -> Result<(), AllocError> {
-    for stone in block.moves.iter() {
-        let weight = weights.get(&block.stones.with(stone.cell).bits());
-        if weight.is_some_and(|weight| DEAR <= *weight) {
-            for cell in cells_of(stone.wide) {
-                tasks.push(Task {
-                    stones: block.stones.with(cell),
-                    region: stone.wide.without(cell),
-                    is_common: false,
-                })?;
-            }
-        }
-    }
-    Ok(())
+// How many stones lead to a scope: each has a full need there.
+fn uses_of(draft: &Draft, block: &Block) -> u64 {
+    let needs = block
+        .needs
+        .iter()
+        .filter_map(|place| draft.needs.get(*place));
+    needs.filter(|need| need.kind == Kind::Full).count() as u64
 }

@@ -50,6 +50,5 @@ mod searches;
 mod states;
 
 pub use orders::Order;
-pub use reporters::{MOVER_LIMITS, OTHER_LIMITS};
 pub use searches::{Outcome, Search};
 pub use states::State;

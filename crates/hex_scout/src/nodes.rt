@@ -1,7 +1,6 @@
 //! The nodes of a proof-number search: the states that were entered.
 
-use hex_board::Board;
-use hex_cells::{Cell, Colour};
+use hex_cells::Cell;
 use indexmap::IndexMap;
 
 /// The most nodes: some 200 MB with their cells.
@@ -25,6 +24,11 @@ impl Effort {
         let (proof, disproof) = if by_mover { (0, NEVER) } else { (NEVER, 0) };
         Effort { proof, disproof }
     }
+
+    /// Of a state of which nothing is known but how many nodes are to be decided to show a loss.
+    pub(crate) fn open(disproof: u32) -> Effort {
+        Effort { proof: 1, disproof }
+    }
 }
 
 /// A state that was entered, with its cells in the order in which they are tried.
@@ -34,11 +38,5 @@ pub(crate) struct ScoutNode {
     pub cells: Vec<Cell>,
 }
 
-/// The nodes, by the stones. These tell who moves, too.
+/// The nodes, by the stones of their states.
 pub(crate) type Nodes = IndexMap<(u128, u128), ScoutNode>;
-
-/// What the node on a board is looked up by.
-pub(crate) fn key_of(board: &Board) -> (u128, u128) {
-    let bits = |colour: Colour| board.stones(colour).bits();
-    (bits(Colour::Black), bits(Colour::White))
-}

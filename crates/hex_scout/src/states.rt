@@ -19,23 +19,18 @@ impl State {
         if board.empties().has(cell) {
             board.place(self.mover, cell);
         }
-        State {
-            board,
-            mover: self.mover.other(),
-        }
+        let mover = self.mover.other();
+        State { board, mover }
     }
 
-    /// The key of the mover's entries of a kind.
-    pub(crate) fn own_key(&self, kind: Kind) -> Key {
-        self.key(self.mover, kind)
+    /// The stones of both players, which tell who moves, too.
+    pub(crate) fn stones(&self) -> (u128, u128) {
+        let bits = |colour: Colour| self.board.stones(colour).bits();
+        (bits(Colour::Black), bits(Colour::White))
     }
 
-    /// The key of the other player's entries of a kind.
-    pub(crate) fn other_key(&self, kind: Kind) -> Key {
-        self.key(self.mover.other(), kind)
-    }
-
-    fn key(&self, player: Colour, kind: Kind) -> Key {
+    /// The key of a player's entries of a kind.
+    pub(crate) fn key(&self, player: Colour, kind: Kind) -> Key {
         Key {
             player,
             kind,

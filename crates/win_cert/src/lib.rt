@@ -7,10 +7,10 @@
 //! a line or the claim applies ([`Reason`]). The *verdict* on it ([`Verdict`]) is yes, with the
 //! claim and the carrier of its entry, or the first line with a reason against it and that reason.
 //!
-//! **A caller** reads a text ([`read`]), writes one ([`write`]), raises a certificate to version 2
-//! ([`raise`]) and cuts one from a report ([`cut`], of an entry that [`edge_numbers`] names), or
-//! the lines of one entry or several ([`lines_onto`]). [`version_for`] is the version that lines
-//! need.
+//! **A caller** reads a text ([`read`]), writes one ([`write`], if [`is_writable`]), raises a
+//! certificate to version 2 ([`raise`]) and cuts one from a report ([`cut`], of an entry that
+//! [`edge_numbers`] names), or the lines of one entry or several ([`lines_onto`]). [`version_for`]
+//! is the version that lines need.
 //!
 //! **What is proved.** The text is a whole list of lines of words (specs/Texts.antt). `write` gives
 //! it. `read` answers the certificate whose text the bytes are, or exactly the first line that is
@@ -24,7 +24,7 @@
 //! ([`lines_are_rules`]).
 //!
 //! **What is only tested, or not said.** That calls get their memory; the time, which is linear in
-//! the length of the text. What the derived texts of [`CertError`] are.
+//! the text's length. What the derived texts of [`CertError`] are.
 //!
 //! **Limits.** [`MOST_LINES`] lines before the claim, numbers up to [`MOST_NUMBER`], and
 //! [`MOST_CASES`] entries in an `or` or a `cases`; [`limits_are_those_of_the_manual`] has them as
@@ -68,6 +68,7 @@ mod reading;
 mod reasons;
 mod refusals;
 mod rule_lines;
+mod spellable;
 mod spelling;
 mod statements;
 mod values;
@@ -89,6 +90,7 @@ pub use reading::read;
 pub use reasons::Reason;
 pub use refusals::{CertError, Memory};
 pub use rule_lines::lines_are_rules;
+pub use spellable::is_writable;
 pub use spelling::written_text_is_read_back;
 pub use statements::Statement;
 pub use verdicts::Verdict;
