@@ -1,6 +1,6 @@
 -- Carriers that have no cell in common, and entries by cases that have such carriers.
-use Rattle.std.specs.Prelude.{◌≡◌, ◌≢◌, ℕ, ◌+◌, ◌-◌, ◌^◌, ◌<◌, Bool, true, false, List, length}
-use Rattle.std.specs.Prelude.{map, min, slice_get, sum_by, All, IfSome}
+use Rattle.std.specs.Prelude.{◌≡◌, ◌≢◌, ℕ, ◌+◌, ◌-◌, ◌^◌, ◌<◌, Bool, true, List, length}
+use Rattle.std.specs.Prelude.{map, min, slice_get, sum_by, All, IfSome, None}
 use Rattle.std.specs.List.{filter_map, list_any}
 use Rattle.hex_cells.specs.Sets.{has}
 use Rattle.edge_tables.specs.declared.entries.EdgeEntry.{EdgeEntry}
@@ -39,7 +39,7 @@ line_sum es = sum_by (λ (e : EdgeEntry). e.lines) es
 pub record IsOfCases (cases : List EdgeEntry) (e : EdgeEntry) : Type 0 where
   pub cells : (k : ℕ) → has e.carrier k ≡ is_covered cases k
   pub lines : e.lines ≡ min (1 + line_sum cases) (2 ^ 32 - 1)
-  pub by_cases : e.is_reported ≡ false
+  pub by_cases : e.report ≡ None
 
 -- the entry by those at several places of the list, which have no cell of the region in common
 pub record IsByCases (region : ℕ) (es : List EdgeEntry) (e : EdgeEntry) : Type 0 where

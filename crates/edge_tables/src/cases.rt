@@ -48,7 +48,7 @@ fn together(entries: &[EdgeEntry], places: &[usize]) -> EdgeEntry
     EdgeEntry {
         carrier,
         lines,
-        is_reported: false,
+        report: None,
     }
 }
 

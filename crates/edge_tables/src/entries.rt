@@ -39,8 +39,8 @@ pub struct EdgeEntry {
     pub carrier: CellSet,
     /// About how many lines of a certificate show it.
     pub lines: u32,
-    /// Whether it is in a report of H-search; else it came by a stone, or by cases.
-    pub is_reported: bool,
+    /// The region of the report that has it; `None` if it came by a stone, or by cases.
+    pub report: Option<CellSet>,
 }
 
 impl EdgeEntry {
@@ -83,7 +83,7 @@ pub(crate) fn add_last(list: &mut Vec<EdgeEntry>, entry: &EdgeEntry) -> Result<(
     list.push(EdgeEntry {
         carrier: entry.carrier,
         lines: entry.lines,
-        is_reported: entry.is_reported,
+        report: entry.report,
     })?;
     Ok(())
 }

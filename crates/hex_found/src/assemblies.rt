@@ -10,7 +10,7 @@ use super::prices::{By, Way};
 use super::scenes::{Scene, Shown};
 use conn_store::Kind;
 use edge_tables::{FinderStop, Tables};
-use hex_cells::{CellSet, Colour, Size};
+use hex_cells::{CellSet, Size};
 use hex_scout::State;
 use std::alloc::Global;
 use std::mem::swap;
@@ -38,15 +38,15 @@ struct Writing {
     open: Vec<Need>,
 }
 
-/// A draft that shows that the player wins at the root. It stops with [`FinderStop::NoWay`] if
-/// something is missing.
+/// A draft that shows that the deriver's player wins at the root. It stops with
+/// [`FinderStop::NoWay`] if something is missing.
 pub(crate) fn assemble(
     alloc: Global,
     deriver: &mut Deriver,
     tables: &Tables,
     root: &State,
-    player: Colour,
 ) -> Result<Draft, FinderStop> {
+    let player = deriver.player;
     let mut draft = Draft::new(alloc, player);
     let kind = claim_for(player, root.mover);
     draft.add_need(root.board.stones(player), kind, root.board.empties())?;

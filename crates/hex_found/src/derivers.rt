@@ -21,7 +21,8 @@ const LIMITS: Limits = Limits {
 pub(crate) struct Deriver {
     alloc: Global,
     size: Size,
-    player: Colour,
+    /// Whose entries they are.
+    pub player: Colour,
     reach: Reach,
     // For stones and a region what was derived there.
     known: IndexMap<(u128, u128), Vec<Derivation>>,

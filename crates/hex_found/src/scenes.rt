@@ -76,7 +76,8 @@ impl Scene {
         Ok(())
     }
 
-    // Derives the entries that the search had by reports, if none is there that serves as well.
+    // Derives the entries that the search had by reports, if none is there that serves as well: by
+    // a report in the carrier, and if that misses one in the region where the search had it.
     fn derive_reported(
         &mut self,
         deriver: &mut Deriver,
@@ -88,8 +89,11 @@ impl Scene {
         let key = draft.key(kind, self.stones);
         for entry in tables.entries(&key).iter().rev() {
             let serves = needs.iter().any(|need| entry.carrier.inside(need.region));
-            if serves && entry.is_reported && !self.has(kind, entry.carrier) {
-                self.derive(deriver, entry.carrier)?;
+            let regions = entry.report.map(|region| [entry.carrier, region]);
+            for region in regions.into_iter().flatten() {
+                if serves && !self.has(kind, entry.carrier) {
+                    self.derive(deriver, region)?;
+                }
             }
         }
         Ok(())

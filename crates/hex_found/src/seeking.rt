@@ -46,7 +46,6 @@ const LITTLE: usize = 98;
 struct Work {
     alloc: Global,
     root: State,
-    player: Colour,
     search: Search,
     deriver: Deriver,
     // With how many states it was tried to show something: its stones and region.
@@ -126,7 +125,6 @@ impl Work {
         Ok(Work {
             alloc,
             root: *root,
-            player,
             search,
             deriver,
             tried: IndexMap::new(alloc),
@@ -210,12 +208,12 @@ impl Work {
     {
         let place = (task.stones.bits(), task.region.bits());
         let before = self.tried.get(&place).copied();
-        let board = task.board(self.root.board.size(), self.player);
+        let board = task.board(self.root.board.size(), self.deriver.player);
         if before.is_some_and(|before| states <= before) || board.winner().is_some() {
             return Ok(0);
         }
         self.tried.insert(place, states)?;
-        let mover = self.player.other();
+        let mover = self.deriver.player.other();
         let outcome = self.search.decide(&State { board, mover }, states);
         match outcome.by_mover {
             Err(FinderStop::Memory) => Err(FinderStop::Memory),
@@ -231,7 +229,7 @@ impl Work {
         let outcome = other.decide(&self.root, states);
         match outcome.by_mover {
             Err(FinderStop::Memory) => return Err(FinderStop::Memory),
-            _ => (self.search.tables).put_all(&other.tables, self.player)?,
+            _ => (self.search.tables).put_all(&other.tables, self.deriver.player)?,
         }
         Ok(outcome.entered)
     }
@@ -239,7 +237,7 @@ impl Work {
     // Makes a draft of what was found, and keeps it if it is the first or shorter.
     fn draft(&mut self) -> Result<(), FinderStop> {
         let (tables, deriver) = (&self.search.tables, &mut self.deriver);
-        let draft = match assemble(self.alloc, deriver, tables, &self.root, self.player) {
+        let draft = match assemble(self.alloc, deriver, tables, &self.root) {
             Err(FinderStop::NoWay) => return Ok(()),
             made => made?,
         };

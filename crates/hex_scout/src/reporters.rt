@@ -60,12 +60,12 @@ impl Reporters {
         let key = |kind: Kind| state.key(player, kind);
         if player == state.mover {
             self.mover.report(&question, Until::FirstWin)?;
-            keep(&mut self.mover, key(Kind::Semi), tables)?;
+            keep(&mut self.mover, state, key(Kind::Semi), tables)?;
             return Ok(!self.mover.between_edges(Kind::Semi).is_empty());
         }
         self.other.report(&question, Until::Threats)?;
-        keep(&mut self.other, key(Kind::Full), tables)?;
-        keep(&mut self.other, key(Kind::Semi), tables)?;
+        keep(&mut self.other, state, key(Kind::Full), tables)?;
+        keep(&mut self.other, state, key(Kind::Semi), tables)?;
         Ok(false)
     }
 
@@ -77,7 +77,7 @@ impl Reporters {
 }
 
 // Puts the entries of the key between the edges.
-fn keep(reach: &mut Reach, key: Key, tables: &mut Tables) -> Result<(), FinderStop> {
+fn keep(reach: &mut Reach, state: &State, key: Key, tables: &mut Tables) -> Result<(), FinderStop> {
     for place in 0..reach.between_edges(key.kind).len() {
         if let Some(number) = reach.between_edges(key.kind).get(place).copied()
             && let Some(entry) = reach.entry(number).copied()
@@ -86,7 +86,7 @@ fn keep(reach: &mut Reach, key: Key, tables: &mut Tables) -> Result<(), FinderSt
             let entry = EdgeEntry {
                 carrier: entry.carrier,
                 lines: u32::try_from(lines).unwrap_or(u32::MAX),
-                is_reported: true,
+                report: Some(state.board.empties()),
             };
             tables.put(&key, &entry)?;
         }

@@ -196,7 +196,7 @@ impl Search {
         Some(EdgeEntry {
             carrier: entry.carrier.with(cell),
             lines: entry.lines.saturating_add(2),
-            is_reported: false,
+            report: None,
         })
     }
 
