@@ -4,8 +4,10 @@
 #   make check                            tests these programs and what stands beside them, in some minutes
 #   make prove                            builds them from the sources, whatever is shipped, and compares
 #   make page [OUT=..]                    makes hexd.html, hexd in one page for a browser, by what was built from the sources
-#   make release                          packs what .ci/run has just built into release/, and makes the page there
-#   make install [PREFIX=..] [DESTDIR=..] installs the programs, their manual pages, completions and documents
+#   make wasm [OUT=..]                    takes hexd for programs in JavaScript out of release/hexd.html (web/hexd.mjs)
+#   make release                          packs what .ci/run has just built into release/, makes the page there, and says what all is made of
+#   make install [prefix=..] [DESTDIR=..] installs the programs, their manual pages, completions and documents; bindir,
+#                                         datadir and the other places below can be said too
 #   make uninstall [..]                   takes away what `make install` with the same words has put there
 #   make deb                              makes a Debian package in out/; its maintainer is DEBFULLNAME <DEBEMAIL>
 
@@ -13,11 +15,13 @@
 programs = hexd hexmatch
 wrappers = hexd-board hexd-report hexd-solve hexd-gtp
 
+# By GNU's names, and PREFIX as others have it.
 PREFIX = /usr/local
-bindir = $(PREFIX)/bin
+prefix = $(PREFIX)
+bindir = $(prefix)/bin
 # Where the programs lie themselves: in bindir stand launchers, which say what is wrong with a word (bin/installed).
-libdir = $(PREFIX)/lib/hexd
-datadir = $(PREFIX)/share
+libdir = $(prefix)/lib/hexd
+datadir = $(prefix)/share
 mandir = $(datadir)/man
 docdir = $(datadir)/doc/hexd
 bashdir = $(datadir)/bash-completion/completions
@@ -27,16 +31,21 @@ fishdir = $(datadir)/fish/vendor_completions.d
 share = $(datadir)/hexd
 
 # Folders whose files lie in share, and stand among the documents by a link.
-folders = board examples gtp openings
-scripts = $(wildcard examples/*.py openings/check openings/draw.py openings/find.py openings/middle.py openings/positions.py \
-    tools/second_checker.py)
+folders = board examples gtp openings puzzles
+scripts = $(wildcard examples/*.py openings/check openings/draw.py openings/find.py openings/gather openings/job \
+    openings/even.py openings/middle.py openings/positions.py tools/second_checker.py tools/puzzles tools/strength \
+    tools/check_won tools/check_ladders)
 texts = $(filter-out %/test.py $(scripts),$(wildcard $(folders:%=%/*.md) $(folders:%=%/*.py) \
-    board/page/* board/report.html board/certificate.html board/settings.json openings/Makefile openings/*.tsv openings/*.sgf \
-    tools/programs.py tools/python.bash tools/words.bash tools/progress.bash tools/options.txt man/*.help))
-others = $(wildcard examples/certificates/* openings/*.xz openings/pictures/*)
+    board/page/* board/report.html board/certificate.html board/settings.json board/guessed.json \
+    openings/Makefile openings/*.tsv openings/*.sgf puzzles/*.tsv \
+    tools/programs.py tools/puzzle_files.py tools/puzzle_games.py tools/puzzle_proofs.py \
+    tools/studies.py tools/session_games.py tools/bradley_terry.py \
+    tools/python.bash tools/streams.bash tools/words.bash tools/progress.bash tools/options.txt man/*.help))
+others = $(wildcard examples/certificates/* openings/*.xz openings/pictures/* puzzles/*.xz \
+    tools/study/*.study tools/study/*.txt tools/study/Makefile tools/study/*.sbatch)
 # Documents name one another by their places here, so they keep these.
 pages = $(wildcard *.md docs/*/*.md crates/README.md web/README.md tools/README.md tools/*/README.md release/NOTICES)
-pictures = $(wildcard docs/*/pictures/* release/hexd.html)
+pictures = $(wildcard docs/*/pictures/* release/hexd.html release/hexd.spdx.json)
 
 # Each installed file as KIND:PLACE-HERE:PLACE-THERE, and each link as link:WHERE-IT-LEADS:PLACE-THERE.
 files = $(foreach name,$(programs),program:$(name):$(libdir)/$(name) \
@@ -97,9 +106,13 @@ prove: built
 page: built
 	web/page.py "$(or $(OUT),web/out/hexd.html)"
 
+wasm:
+	web/module.py release/hexd.html "$(or $(OUT),web/out/hexd.wasm)"
+
 release:
 	tools/release $(programs)
 	web/page.py release/hexd.html
+	tools/sbom
 
 install: build
 	$(foreach file,$(files),$(call install_one,$(file)))
@@ -113,6 +126,6 @@ uninstall:
 
 # Where Debian has games and what belongs to its zsh.
 deb: build
-	tools/make_deb "$(or $(OUT),out)" PREFIX=/usr bindir=/usr/games zshdir=/usr/share/zsh/vendor-completions
+	tools/make_deb "$(or $(OUT),out)" prefix=/usr bindir=/usr/games zshdir=/usr/share/zsh/vendor-completions
 
-.PHONY: build built check prove page release install uninstall deb
+.PHONY: build built check prove page wasm release install uninstall deb

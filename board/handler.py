@@ -1,14 +1,17 @@
 """The server's side of a request: whose it is, what it wants, and its answer. README.md has the table of requests."""
 
+import io
 import json
 import re
 import secrets
 import socket
 import socketserver
 import sys
+import time
 from http.server import BaseHTTPRequestHandler, ThreadingHTTPServer
 from pathlib import Path
 
+import connections
 import hexd
 import settings
 import tokens
@@ -22,8 +25,10 @@ MOST_BYTES = 1_048_576
 NO_TOKEN = "the token is missing: open the address that bin/hexd-board printed, and paste a link into its page"
 # What is left of a refused body is read up to here, so that the client reads the refusal before the connection closes.
 MOST_DROPPED_BYTES = 16 * MOST_BYTES
-# A connection over which nothing comes for so long is closed.
-QUIET_SECONDS = 60
+# A connection over which no request begins for so long is closed; and so long a head may take, a body, and an answer.
+QUIET_SECONDS, HEAD_SECONDS, BODY_SECONDS, ANSWER_SECONDS = 60, 10, 60, 60
+# If no file is left for a connection, another one is dropped, and the next try is so much later.
+PAUSE_SECONDS = 0.05
 PAGE = Path(__file__).resolve().with_name("page")
 KINDS = {".html": "text/html", ".css": "text/css", ".js": "text/javascript", ".svg": "image/svg+xml"}
 TEXT, JSON = "text/plain", "application/json"
@@ -73,7 +78,22 @@ class Handler(BaseHTTPRequestHandler):
     sys_version = ""
     # What Python's own part refuses, as an unknown method, is a line too.
     error_message_format, error_content_type = "%(message)s\n", "text/plain; charset=utf-8"
-    timeout = QUIET_SECONDS
+
+    def setup(self):
+        super().setup()
+        self.line = connections.Line(self.connection)
+        self.rfile = io.BufferedReader(self.line)
+
+    def handle_one_request(self):
+        self.close_connection = True
+        self.server.connections.set_waiting(self.connection, True)
+        self.line.within(QUIET_SECONDS)
+        try:
+            self.rfile.peek(1)
+        except TimeoutError:
+            return
+        self.line.within(HEAD_SECONDS)
+        super().handle_one_request()
 
     def do_GET(self):
         self.serve(self.get)
@@ -90,9 +110,11 @@ class Handler(BaseHTTPRequestHandler):
         # Until it is known that the request is the page's and where its body ends, nothing behind it is read as another one.
         self.close_connection, persists = True, self.close_connection
         try:
+            self.needs_whole_head()
             self.left = self.length()
             self.admit()
             self.close_connection = persists
+            self.server.connections.set_waiting(self.connection, False)
             self.answer(200, *method(*self.path.split("?")[0].split("/")[2:]))
         except Refusal as refusal:
             self.answer(refusal.status, refusal.why + "\n", TEXT)
@@ -103,6 +125,13 @@ class Handler(BaseHTTPRequestHandler):
             self.answer(500, f"the server has a fault, {name}, of which its terminal says more. {troubles.KEPT}\n", TEXT)
             raise
         self.drop_rest()
+
+    def needs_whole_head(self):
+        """Refuses a head that breaks off, and one of which a part can't be read: a length may stand there."""
+        if self.line.is_ended:
+            raise Refusal(400, "the head of the request breaks off")
+        if self.headers.defects:
+            raise Refusal(400, "a line of the head is none of a name, a colon and a value")
 
     def admit(self):
         """Refuses who isn't this server's page: neither a page elsewhere nor another user of the machine may drive it."""
@@ -124,7 +153,11 @@ class Handler(BaseHTTPRequestHandler):
     def body(self):
         if self.left > MOST_BYTES:
             raise Refusal(413, f"a body has at most {MOST_BYTES} bytes")
-        body, self.left = self.rfile.read(self.left), 0
+        self.line.within(BODY_SECONDS)
+        body, left = self.rfile.read(self.left), self.left
+        self.left = 0
+        if len(body) < left:
+            raise Refusal(400, "the body of the request breaks off")
         return body
 
     def get(self, *path):
@@ -137,6 +170,11 @@ class Handler(BaseHTTPRequestHandler):
             case ("openings", opening) if found := re.fullmatch("([1-9]|1[01])(?:-([a-k][1-9][0-9]?))?", opening):
                 size, vertex, openings = int(found[1]), found[2], self.server.openings
                 return json.dumps(openings.winner(size, vertex) if vertex else openings.winners(size)), JSON
+            case ("openings", opening, "certificate") if found := re.fullmatch("([1-9]|1[01])-([a-k][1-9][0-9]?)", opening):
+                certificate = self.server.openings.certificate(int(found[1]), found[2])
+                if certificate is None:
+                    raise Refusal(404, "of this opening there is no certificate")
+                return certificate, TEXT
         raise Refusal(404, "there is no such file")
 
     def post(self, *path):
@@ -153,7 +191,7 @@ class Handler(BaseHTTPRequestHandler):
             case ("session", name, "check"):
                 return sessions.check(name, body), TEXT
             case ("session", name, "solve", budget) if re.fullmatch("[1-9][0-9]{0,17}", budget):
-                return sessions.solve(name, body, budget), TEXT
+                return sessions.solve(name, body, int(budget), self.connection), TEXT
         raise Refusal(404, "there is no such request")
 
     def delete(self, *path):
@@ -164,6 +202,7 @@ class Handler(BaseHTTPRequestHandler):
 
     def answer(self, status, body, kind):
         body = body if isinstance(body, bytes) else body.encode()
+        self.connection.settimeout(ANSWER_SECONDS)
         self.send_response(status)
         self.send_header("Content-Type", f"{kind}; charset=utf-8")
         self.send_header("Content-Length", str(len(body)))
@@ -179,6 +218,8 @@ class Handler(BaseHTTPRequestHandler):
         if not self.left:
             return
         self.close_connection = True
+        self.server.connections.set_waiting(self.connection, True)
+        self.line.within(HEAD_SECONDS)
         self.wfile.flush()
         left = min(self.left, MOST_DROPPED_BYTES)
         while left > 0 and (got := self.rfile.read(min(left, 65_536))):
@@ -192,9 +233,12 @@ class Server(ThreadingHTTPServer):
     """The server on one port, with its token, sessions and openings."""
 
     daemon_threads = True
+    # So many connections wait until they are taken.
+    request_queue_size = 128
 
     def __init__(self, address, port, sessions, openings):
         self.sessions, self.openings = sessions, openings
+        self.connections = connections.Connections(connections.most())
         self.files = {file.name for file in PAGE.iterdir() if file.suffix in KINDS}
         self.address_family, _, _, _, place = socket.getaddrinfo(address, port, type=socket.SOCK_STREAM)[0]
         super().__init__(place[:2], Handler)
@@ -205,6 +249,25 @@ class Server(ThreadingHTTPServer):
         # The one of HTTPServer asks the system for the host's full name, which may take long.
         socketserver.TCPServer.server_bind(self)
         self.server_name, self.server_port = self.server_address[:2]
+
+    def get_request(self):
+        try:
+            return super().get_request()
+        except OSError:
+            # The system has no file left for it.
+            self.connections.drop()
+            time.sleep(PAUSE_SECONDS)
+            raise
+
+    def process_request(self, request, client_address):
+        if self.connections.begin(request):
+            super().process_request(request, client_address)
+        else:
+            self.shutdown_request(request)
+
+    def close_request(self, request):
+        self.connections.end(request)
+        super().close_request(request)
 
     def handle_error(self, request, client_address):
         if not isinstance(sys.exc_info()[1], (ConnectionError, TimeoutError)):

@@ -12,6 +12,8 @@ import threading
 from pathlib import Path
 
 import hexd
+import limits
+import settings
 
 try:
     import lzma
@@ -21,7 +23,8 @@ except ImportError:
 FOLDER = Path(__file__).resolve().parent.parent / "openings"
 # `hexd check` takes no more.
 MOST_BYTES = 67_108_864
-CHECK_SECONDS = 120
+# Guesses are in thousandths (board/guessed.json).
+PER_MILLE = 1_000
 # What the certificate's player is, and what it claims, where he wins with White to move.
 CLAIMS = {"white": "yes semi", "black": "yes full"}
 
@@ -42,8 +45,20 @@ def turned(certificate, size):
     return "\n".join(lines)
 
 
+def guessed_share(size, vertex):
+    """What is guessed of Black's share after his first stone on a cell, from 0 to 1; None where nothing is."""
+    of = settings.GUESSED["black"].get(str(size), {})
+    found = of.get(vertex, of.get(turned_cell(vertex, size)))
+    return found and found / PER_MILLE
+
+
+def player_of(certificate):
+    """Whose win a certificate claims: `black` or `white`."""
+    return certificate.split("\n", 3)[2].removeprefix("player ")
+
+
 class Openings:
-    """The proved winners of openings. Each is found once."""
+    """The proved winners of openings, and their certificates. Each winner is found once."""
 
     def __init__(self, program, folder=FOLDER):
         self.program, self.folder = program, Path(folder)
@@ -58,6 +73,10 @@ class Openings:
                 self.found[size, vertex] = self._winner(size, vertex)
             return self.found[size, vertex]
 
+    def certificate(self, size, vertex):
+        """The certificate by which it is proved who wins after Black's first stone on this cell; None where nothing is."""
+        return self._accepted(size, vertex) if self.winner(size, vertex) else None
+
     def winners(self, size):
         """Who is proved to win, by the opening's vertex, for those of a size that are known."""
         vertices = [f"{chr(ord('a') + column)}{row + 1}" for row in range(size) for column in range(size)]
@@ -69,22 +88,26 @@ class Openings:
         return any((self.folder / f"{size}-{cell}.cert.xz").exists() for cell in (vertex, turned_cell(vertex, size)))
 
     def _winner(self, size, vertex):
-        opposite = turned_cell(vertex, size)
-        return self._proved(self._certificate(size, vertex), size, vertex) or self._proved(
-            turned(self._certificate(size, opposite), size), size, vertex
-        )
+        text = self._accepted(size, vertex)
+        return text and player_of(text)
 
-    def _proved(self, certificate, size, vertex):
-        """Who wins by a certificate, where it is one of this opening and a second process accepts it."""
+    def _accepted(self, size, vertex):
+        """An opening's certificate that a second process accepts: its own, or the turned one of the opposite cell; else None."""
+        own = self._certificate(size, vertex)
+        if self._is_accepted(own, size, vertex):
+            return own
+        opposite = turned(self._certificate(size, turned_cell(vertex, size)), size)
+        return opposite if self._is_accepted(opposite, size, vertex) else None
+
+    def _is_accepted(self, certificate, size, vertex):
+        """Whether a certificate is one of this opening, and a second process says that it is right."""
         head = certificate.split("\n", 5)[:5]
         if len(head) < 5 or head[1] != f"size {size}" or head[3:] != [f"black {vertex}", "white"]:
-            return None
-        player = head[2].removeprefix("player ")
+            return False
         try:
-            verdict = hexd.check(certificate.encode(), self.program, CHECK_SECONDS)
+            return limits.check(certificate.encode(), self.program) == CLAIMS.get(player_of(certificate))
         except hexd.EngineEnded:
-            return None
-        return player if verdict == CLAIMS.get(player) else None
+            return False
 
     def _certificate(self, size, vertex):
         if lzma is None:

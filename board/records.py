@@ -11,7 +11,7 @@ what is legal hexd says. page/records.js does the same for the page; both are te
 import re
 from dataclasses import dataclass
 
-from sgf import Node, Refused, decoded, printed, tree_of
+from sgf import Node, Refused, decoded, printed, shown, tree_of
 
 LETTERS = "abcdefghijk"
 SIZES = range(1, len(LETTERS) + 1)
@@ -22,6 +22,9 @@ OTHER = {"B": "W", "W": "B"}
 OF_COLOURS = {"RE", "PL"}
 # What sets stones, and what takes them away.
 STONES, AWAY = ("AB", "AW"), "AE"
+SETTING = (*STONES, AWAY)
+# More bytes hexd reads of no file (`loadsgf`), and so many changes are told of one.
+MOST_BYTES, MOST_NOTES = 1_048_576, 20
 # What belongs to a player, and changes sides with him.
 OF_PLAYERS = {"PB": "PW", "PW": "PB", "BR": "WR", "WR": "BR", "BT": "WT", "WT": "BT", "BL": "WL", "WL": "BL"}
 
@@ -49,6 +52,37 @@ def cell_of(value, crossed):
     return f"{chr(ord('a') + column)}{row + 1}" if column < 26 else None
 
 
+class Start:
+    """The stones of the start, while nodes set others and take some away: as often as a record's bytes allow."""
+
+    def __init__(self, properties):
+        # Each with its colour and its value, as it was set, and by their cells those that lie.
+        self.stones, self.lying, self.count = {}, {}, 0
+        for name in STONES:
+            for value in properties.get(name, ()):
+                self.put(name, value)
+
+    def put(self, name, value):
+        self.stones[self.count] = name, value
+        self.lying.setdefault(cell_of(value, False), []).append(self.count)
+        self.count += 1
+
+    def take(self, value):
+        for number in self.lying.pop(cell_of(value, False), ()):
+            del self.stones[number]
+
+    def set_up(self, properties):
+        """Does what a node does, which has it no longer."""
+        for name in SETTING:
+            for value in properties.pop(name, ()):
+                self.take(value)
+                if name != AWAY:
+                    self.put(name, value)
+
+    def values(self, name):
+        return [value for colour, value in self.stones.values() if colour == name]
+
+
 class Reader:
     """Puts the nodes of a tree into hexd's form, and notes what it changes."""
 
@@ -60,11 +94,11 @@ class Reader:
     def size_of(self, root):
         game = root.properties.get("GM", ["11"])[0].strip()
         if game != "11":
-            raise Refused(f"it is a record of another game than Hex: GM[{game}]")
+            raise Refused(f"it is a record of another game than Hex: GM[{shown(game)}]")
         given = root.properties.get("SZ", ["11"])[0].strip()
-        found = re.fullmatch(r"(\d{1,4})(?::\1)?", given)
+        found = re.fullmatch(r"([0-9]{1,4})(?::\1)?", given)
         if not found or int(found[1]) not in SIZES:
-            raise Refused(f"size {given}: hexd plays 1 to {SIZES[-1]}")
+            raise Refused(f"size {shown(given)}: hexd plays 1 to {SIZES[-1]}")
         return int(found[1])
 
     def white_begins(self):
@@ -87,21 +121,12 @@ class Reader:
 
     def gather_start(self):
         """Stones that are set or taken away behind the root, before the first move and the first side line, are the start's."""
-        node = self.root
-        while not node.moves() and len(node.children) == 1:
+        start, node = Start(self.root.properties), self.root
+        while len(node.children) == 1 and not node.moves():
             node = node.children[0]
-            self.set_up(node)
-
-    def set_up(self, node):
-        """Does to the stones of the start what a node does, which has it no longer."""
-        of_root = self.root.properties
-        for name in (*STONES, AWAY):
-            for value in node.properties.pop(name, []):
-                for colour in STONES:
-                    others = of_root.get(colour, [])
-                    of_root[colour] = [other for other in others if cell_of(other, False) != cell_of(value, False)]
-                if name != AWAY:
-                    of_root[name].append(value)
+            start.set_up(node.properties)
+        for name in STONES:
+            self.root.properties[name] = start.values(name)
 
     def convert(self):
         """Puts each node into hexd's form. A side line is left out where it can't be; Refused in the main line."""
@@ -109,17 +134,21 @@ class Reader:
         left = [(self.root, 0, True)]
         while left:
             node, number, is_main = left.pop()
-            number += self.convert_node(node, number + 1)
+            if node.properties:
+                number += self.convert_node(node, number + 1)
             kept = []
-            for at, child in enumerate(node.children):
+            for child in node.children:
                 try:
-                    child = self.stones_as_moves(child, number + 1)
-                    self.probe(child, number + 1)
-                    kept.append((child, number, is_main and at == 0))
+                    # A record may have a million nodes without a property.
+                    if child.properties:
+                        child = self.stones_as_moves(child, number + 1)
+                        self.probe(child, number + 1)
+                    kept.append((child, number, is_main))
                 except Refused as why:
-                    if is_main and at == 0:
+                    if is_main:
                         raise
                     self.notes.append(f"A side line is left out: {why}.")
+                is_main = False
             node.children = [child for child, _, _ in kept]
             left += reversed(kept)
 
@@ -151,7 +180,7 @@ class Reader:
             return SWAP if word == "swap" else word
         cell = cell_of(word, self.crossed)
         if cell is None:
-            raise Refused(f"move {number} is no move: {COLOURS[name]} {value.strip()[:20]!r}")
+            raise Refused(f"move {number} is no move: {COLOURS[name]} '{shown(value)}'")
         return cell
 
     def convert_node(self, node, number):
@@ -175,7 +204,7 @@ class Reader:
     def stone_of(self, value):
         cell = cell_of(value, self.crossed)
         if cell is None:
-            raise Refused(f"a stone of the start lies on no cell: {value.strip()[:20]!r}")
+            raise Refused(f"a stone of the start lies on no cell: '{shown(value)}'")
         return cell
 
     def note_move(self, name, move, number):
@@ -205,10 +234,14 @@ def main_line(root):
 
 def read(content):
     """The record in the bytes of a file."""
+    if len(content) > MOST_BYTES:
+        raise Refused(f"it has more than {MOST_BYTES:,} bytes")
     root, trees, is_whole = tree_of(decoded(content))
     reader = Reader(root)
     reader.probe(Node({name: root.properties[name] for name in "BW" if name in root.properties}), 1)
     reader.convert()
+    if len(reader.notes) > MOST_NOTES:
+        reader.notes[MOST_NOTES:] = [f"Of {len(reader.notes) - MOST_NOTES} changes more nothing is said."]
     if trees > 1:
         reader.notes.append(f"The file has {trees} games; this is the first.")
     if not is_whole:

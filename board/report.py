@@ -1,11 +1,12 @@
 #!/usr/bin/env python3
 """Writes a report of a game: one HTML file with each position of a record and what hexd says of it; or draws a certificate.
 
-    report.py [--playouts N] [--weight N] [--workers N] GAME.sgf >GAME.html
-    report.py WIN.cert >WIN.html
+    report.py [--playouts N] [--weight N] [--workers N] [--json] GAME.sgf >GAME.html
+    report.py [--json] WIN.cert >WIN.html
 
 The file's name may be `-`, standard input. For each position hexd is asked for a move, its plan, its search and its certificate,
 which a second process checks; then the record's own move is played. On standard error stands how far it is, and why it ends.
+With --json the output is one object in place of the page.
 """
 
 import html
@@ -16,14 +17,16 @@ from pathlib import Path
 
 import certificate
 import hexd
+import limits
+import objects
 import onefile
 import records
 import settings
-from openings import Openings
+from openings import MOST_BYTES, Openings
+from sgf import printable
 
 FRAME = "report.html"
 SCRIPTS = ["elements", "cells", "board", "certificate", "thought", "proofs", "plot", "report"]
-CHECK_SECONDS = 120
 # A position that the solver decides within this time counts as decided.
 SOLVE_SECONDS = 1
 # More than it enters in that time.
@@ -72,7 +75,7 @@ class Reporter:
         said = {"mover": mover, "cell": cell, "mustplay": self.ask("mustplay"), "report": self.ask("search-report")}
         said["certificate"] = certificate = self.ask("wincert")
         said["swap"] = swap
-        said["checked"] = certificate and hexd.check(f"{certificate}\n".encode(), self.program, CHECK_SECONDS)
+        said["checked"] = certificate and limits.check(f"{certificate}\n".encode(), self.program)
         self.ask("undo")
         return said
 
@@ -84,9 +87,10 @@ class Reporter:
         if mover != ("w" if steps and steps[-1]["colour"] == "b" else "b"):
             return None
         try:
-            winner = hexd.solve(f"{record}\n".encode(), MOST_POSITIONS, self.program, SOLVE_SECONDS).winner
+            said = limits.Solver(MOST_POSITIONS, self.program).answer(f"{record}\n".encode(), SOLVE_SECONDS)
         except hexd.EngineEnded:
             return None
+        winner = hexd.Solved.of(said).winner
         return winner and winner[0]
 
     def position(self, mover, step, last):
@@ -133,22 +137,35 @@ def page_of(report, given):
 def wanted(words):
     parser = settings.Parser(prog="hexd-report", description="Writes a report of a game as HTML on standard output.")
     settings.add_options(parser)
+    parser.add_argument("--json", action="store_true", help="write what the page shows as one line of JSON")
     parser.add_argument("--program", type=Path, default=hexd.PROGRAM, help="the program in place of the built one")
-    parser.add_argument("record", metavar="GAME.sgf", help="the record of a game, or a certificate; -: standard input")
+    parser.add_argument("record", metavar="GAME.sgf", help="the record of a game, or a certificate, packed by xz or not; -: standard input")
     return parser.parse_args(words)
 
 
+def content_of(name):
+    """The bytes of a file, or of standard input; of a longer one as many as show that it is too long."""
+    with sys.stdin.buffer if name == "-" else open(name, "rb") as file:
+        return file.read(MOST_BYTES + 1)
+
+
 def made(options):
-    """The page of a record or a certificate; records.Refused, EngineEnded or OSError where there is none."""
-    is_standard = options.record == "-"
-    content = sys.stdin.buffer.read() if is_standard else Path(options.record).read_bytes()
-    name, program = "Standard input" if is_standard else Path(options.record).name, options.program.resolve()
+    """The page of a record or a certificate, or its JSON; records.Refused, EngineEnded or OSError where there is none."""
+    content, program = certificate.unpacked(content_of(options.record)), options.program.resolve()
+    name = "Standard input" if options.record == "-" else printable(Path(options.record).name)
     if certificate.is_one(content):
-        return certificate.page_of(content, name, program, CHECK_SECONDS)
+        told = certificate.told(content, program)
+        return objects.line_of({"name": name, **told}) + "\n" if options.json else certificate.page_of(told, name)
     record, given = records.read(content), settings.given_of(options)
     with tempfile.TemporaryDirectory(prefix="hexd-report-") as folder:
         with hexd.Engine([program, "htp", *settings.words_of(given)], folder) as engine:
-            return page_of(Reporter(engine, program).report(record, name), given)
+            limits.hold_session(engine.process, given["workers"])
+            report = Reporter(engine, program).report(record, name)
+    return objects.line_of(objects.report(report)) + "\n" if options.json else page_of(report, given)
+
+
+def tell(name, why):
+    print(f"hexd-report: {printable(str(name))}: {why}", file=sys.stderr)
 
 
 def written(page):
@@ -158,7 +175,7 @@ def written(page):
             output.write(page)
         return 0
     except OSError as fault:
-        print(f"hexd-report: standard output: {fault.strerror}", file=sys.stderr)
+        tell("standard output", fault.strerror)
         return 1
 
 
@@ -167,9 +184,9 @@ def main():
     try:
         page = made(options)
     except (records.Refused, hexd.EngineEnded) as why:
-        print(f"hexd-report: {options.record}: {why}", file=sys.stderr)
+        tell(options.record, why)
     except OSError as fault:
-        print(f"hexd-report: {fault.filename or options.record}: {fault.strerror}", file=sys.stderr)
+        tell(fault.filename or options.record, fault.strerror)
     else:
         return written(page)
     return 1

@@ -1,5 +1,6 @@
 """The server's sessions: each is one process `hexd htp` in a folder of its own, under a random name."""
 
+import contextlib
 import secrets
 import shutil
 import threading
@@ -7,16 +8,16 @@ import time
 from dataclasses import dataclass, field
 from pathlib import Path
 
+import limits
 import settings
 import troubles
-from hexd import Engine, EngineEnded, Solver, check
+from hexd import Engine, EngineEnded
 
 # A page that is opened again and again must not fill the machine with processes.
-MOST_SESSIONS = 16
+MOST_SESSIONS = MOST_SOLVERS = 16
 IDLE_SECONDS = 3600
 # Of so many sessions that ended by themselves it is still known why.
 MOST_REASONS = 256
-CHECK_SECONDS = 120
 
 
 class Refusal(Exception):
@@ -46,7 +47,7 @@ class Sessions:
 
     def __init__(self, program, given, others, folder):
         self.program, self.given, self.others, self.folder = program, given, others, Path(folder)
-        self.open, self.reasons = {}, {}
+        self.open, self.reasons, self.solvers = {}, {}, 0
         self.turn = threading.Lock()
 
     def words(self, options):
@@ -58,8 +59,9 @@ class Sessions:
         return [*(word for word in words if word.split("=")[0] not in own), *self.others]
 
     def told(self):
-        """What the page is told of the settings: the table, how the server was started, and the workers, as JSON takes it."""
-        return {"table": settings.TABLE, "started": self.given.started, "workers": self.given.workers}
+        """What the page is told of the settings, as JSON takes it: both tables, how the server was started, and the workers."""
+        started, workers = self.given.started, self.given.workers
+        return {"table": settings.TABLE, "guessed": settings.GUESSED, "started": started, "workers": workers}
 
     def make(self, options=None):
         """Starts a process and gives its session's name."""
@@ -78,6 +80,7 @@ class Sessions:
             except OSError as fault:
                 folder.rmdir()
                 raise self._not_started(fault) from None
+            limits.hold_session(engine.process, self.given.workers)
             self.open[name] = Session(engine, folder)
             return name
 
@@ -96,22 +99,24 @@ class Sessions:
         """What a second process says of a certificate."""
         self._find(name)
         try:
-            return check(certificate, self.program, CHECK_SECONDS)
+            return limits.check(certificate, self.program)
         except OSError as fault:
             raise self._not_started(fault) from None
         except EngineEnded as fault:
             raise Refusal(500, f"the certificate is not checked: {fault}. {troubles.KEPT} Try again.") from None
 
-    def solve(self, name, record, budget):
-        """What `hexd solve` says of the position of a record, in a process that ends with the session."""
+    def solve(self, name, record, budget, client=None):
+        """What `hexd solve` says of the position of a record, in a process that ends with the session, and with its client, a
+        socket."""
         session = self._find(name)
         try:
-            solver = Solver(budget, self.program)
-            session.solvers.append(solver)
-            # A session that was ended meanwhile has ended those alone that it had.
-            if self.open.get(name) is not session:
-                solver.kill()
-            return solver.answer(record).rstrip("\n")
+            with self._solver(session, budget) as solver:
+                if client:
+                    solver.end_with(client)
+                # A session that was ended meanwhile has ended those alone that it had.
+                if self.open.get(name) is not session:
+                    solver.kill()
+                return solver.answer(record).rstrip("\n")
         except EngineEnded as ended:
             if name in self.reasons:
                 raise Refusal(410, self.reasons[name]) from None
@@ -120,7 +125,25 @@ class Sessions:
             raise self._not_started(fault) from None
         finally:
             session.used = time.monotonic()
-            session.solvers.clear()
+
+    @contextlib.contextmanager
+    def _solver(self, session, budget):
+        """A solver among those of a session, of which there are few in all."""
+        with self.turn:
+            if self.solvers >= MOST_SOLVERS:
+                raise Refusal(429, f"there are {MOST_SOLVERS} positions at work: stop one of them, or wait")
+            self.solvers += 1
+        solver = None
+        try:
+            solver = limits.Solver(budget, self.program)
+            session.solvers.append(solver)
+            yield solver
+        finally:
+            if solver:
+                solver.kill()
+                session.solvers.remove(solver)
+            with self.turn:
+                self.solvers -= 1
 
     def make_room(self):
         """Ends the session that was not used for the longest time, where there are as many as may be."""

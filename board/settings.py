@@ -9,12 +9,16 @@ from pathlib import Path
 # How strongly hexd plays for the page, the board and hexd-gtp: `strengths` by their names, of which `solve` goes by the size of
 # the board; how numbers are chosen for a clock; and an opening near even for each size.
 TABLE = json.loads(Path(__file__).resolve().with_name("settings.json").read_text())
+# What hexd's look-ahead once said of each first stone of boards on which nothing is proved, by tools/first_stones.py.
+GUESSED = json.loads(Path(__file__).resolve().with_name("guessed.json").read_text())
 # The ranges of hexd's own options of these names.
 RANGES = {"playouts": (1, 1_000_000), "weight": (0, 1_024), "workers": (1, 64)}
 # And of those that a session of the page may ask for.
 ASKED = {**RANGES, "look": (0, 1_000_000), "solve": (0, 10_000_000)}
 del ASKED["workers"]
 MOST_WORKERS = 4
+# That of all programs here (tools/words.bash).
+VERSION = "1.0"
 LARGEST = 11
 BEST = {"playouts": 100_000, "weight": 0, "workers": min(MOST_WORKERS, len(os.sched_getaffinity(0)))}
 HELP = {
@@ -29,6 +33,7 @@ class Parser(argparse.ArgumentParser):
 
     def __init__(self, **how):
         super().__init__(allow_abbrev=False, **how)
+        self.add_argument("--version", action="version", version=f"%(prog)s {VERSION}", help="say the version")
 
     def error(self, message):
         self.exit(2, f"{self.prog}: {message} (--help has all words)\n")

@@ -3,15 +3,31 @@
 import re
 from dataclasses import dataclass, field
 
+from charsets import codec_of
+
 # A bracket alone is that of a value without an end.
 TOKEN = re.compile(r"\[(?:\\.|[^\]\\])*\]|[A-Za-z]+|[();[]", re.DOTALL)
+
+
+# So much of a value is quoted.
+MOST_QUOTED = 60
 
 
 class Refused(Exception):
     """Why hexd can't play a record, in words."""
 
 
-@dataclass
+def printable(text):
+    """A text that others wrote as one line, in which what can't be printed is a question mark."""
+    return "".join(character if character.isprintable() else "?" for character in text)
+
+
+def shown(value):
+    """A value as it is quoted to a reader, or in an answer: in one line, and not all of a long one."""
+    return printable(value.strip()[:MOST_QUOTED])
+
+
+@dataclass(slots=True)
 class Node:
     """A node: its properties with their values as they stand in the text, and the nodes that follow."""
 
@@ -19,17 +35,19 @@ class Node:
     children: list = field(default_factory=list)
 
     def moves(self):
-        return [(name, value) for name in "BW" for value in self.properties.get(name, [])]
+        return [(name, value) for name in "BW" for value in self.properties.get(name, ())] if self.properties else []
 
 
 def decoded(content):
     """The text of a file: in UTF-8, else in the character set that it names, else with a character for each byte."""
     named = re.search(rb"CA\[([\w.:-]+)\]", content)
-    for name in ("utf-8-sig", named and named[1].decode(), "latin-1"):
+    for codec in ("utf-8-sig", named and codec_of(named[1].decode())):
         try:
-            return content.decode(name or "latin-1")
-        except (LookupError, UnicodeDecodeError):
+            if codec:
+                return content.decode(codec)
+        except UnicodeDecodeError:
             continue
+    return content.decode("latin-1")
 
 
 def tree_of(text):

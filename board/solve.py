@@ -1,10 +1,11 @@
 #!/usr/bin/env python3
 """Says who wins the position of a record, and meanwhile how far it is: `hexd solve` with growing budgets.
 
-    solve.py [--budget N] [--hsearch on|off] [GAME.sgf] >game.cert
+    solve.py [--budget N] [--hsearch on|off] [--json] [GAME.sgf] >game.cert
 
-Its output is that of `hexd solve`: a line, and a certificate if the position is solved. On standard error stands what each
-budget came to, and every few seconds how long the one has taken that is at work. Ctrl-C leaves what the last one came to.
+Its output is that of `hexd solve`: a line, and a certificate if the position is solved; with --json the same as one object. On
+standard error stands what each budget came to, and every few seconds how long the one has taken that is at work. Ctrl-C leaves
+what the last one came to.
 """
 
 import signal
@@ -14,8 +15,11 @@ import time
 from pathlib import Path
 
 import hexd
+import limits
+import objects
 import records
 import settings
+from sgf import printable
 
 # The budgets: the first, and how many times as large the next one is. What is searched anew is a third of it at most.
 FIRST, GROWTH = 100, 4
@@ -67,12 +71,12 @@ def budgets(most):
 
 
 def solved(record, options):
-    """What `hexd solve` says with the last budget that came to its end, and whether Ctrl-C came before."""
-    said, began = "", time.monotonic()
+    """What `hexd solve` says with the last budget that came to its end, that budget, and whether Ctrl-C came before."""
+    said, spent, began = "", None, time.monotonic()
     try:
         for budget in budgets(options.budget):
-            work = Work(hexd.Solver(budget, options.program, ("--hsearch", options.hsearch)), budget)
-            said = work.answer(record)
+            work = Work(limits.Solver(budget, options.program, ("--hsearch", options.hsearch)), budget)
+            said, spent = work.answer(record), budget
             first = said.partition("\n")[0]
             if not first:
                 raise hexd.EngineEnded(f"{options.program} says nothing: it is no hexd")
@@ -80,13 +84,13 @@ def solved(record, options):
             if not first.startswith("unknown"):
                 break
     except KeyboardInterrupt:
-        return said, True
+        return said, spent, True
     except hexd.EngineEnded as ended:
         # On a terminal Ctrl-C ends both.
         if ended.status == -signal.SIGINT:
-            return said, True
+            return said, spent, True
         raise
-    return said, False
+    return said, spent, False
 
 
 def wanted(words):
@@ -95,6 +99,7 @@ def wanted(words):
     parser.add_argument("--budget", metavar="N", type=settings.number(1, MOST), default=DEFAULT, help=budget)
     text = "whether it looks for connections, which are in its certificates; on by default"
     parser.add_argument("--hsearch", metavar="WORD", choices=["on", "off"], default="on", help=text)
+    parser.add_argument("--json", action="store_true", help="write what is known as one line of JSON")
     parser.add_argument("--program", metavar="FILE", type=Path, default=hexd.PROGRAM, help="the program hexd")
     parser.add_argument("record", metavar="GAME.sgf", nargs="?", default="-", help="the record; -: standard input")
     return parser.parse_args(words)
@@ -102,15 +107,16 @@ def wanted(words):
 
 def read(name):
     """The record of a file in hexd's form."""
-    content = sys.stdin.buffer.read() if name == "-" else Path(name).read_bytes()
-    record = records.read(content)
+    with sys.stdin.buffer if name == "-" else open(name, "rb") as file:
+        record = records.read(file.read(records.MOST_BYTES + 1))
     for note in record.notes:
         tell(note)
     return record.main.encode()
 
 
 def written(text):
-    """Writes the answer, and gives the status."""
+    """Writes the answer, and gives the status. If who reads it has gone, this process ends as others in a pipe do."""
+    signal.signal(signal.SIGPIPE, signal.SIG_DFL)
     try:
         with open(1, "w", encoding="ascii", closefd=False) as output:
             output.write(text)
@@ -123,15 +129,17 @@ def written(text):
 def main():
     options = wanted(sys.argv[1:])
     try:
-        said, is_stopped = solved(read(options.record), options)
+        said, budget, is_stopped = solved(read(options.record), options)
     except (records.Refused, hexd.EngineEnded) as why:
-        tell(f"{options.record}: {why}")
+        tell(f"{printable(options.record)}: {why}")
         return FAILED
     except OSError as fault:
-        tell(f"{fault.filename or options.record}: {fault.strerror}")
+        tell(f"{printable(str(fault.filename or options.record))}: {fault.strerror}")
         return FAILED
     if is_stopped:
         tell("stopped; what is known stands" if said else "stopped before anything was known")
+    if options.json:
+        said = objects.line_of(objects.solved(said, budget, is_stopped)) + "\n"
     return written(said) or (STOPPED if is_stopped else 0)
 
 

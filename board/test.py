@@ -61,16 +61,17 @@ def open_standard_streams():
 
 def tests(options):
     """The cases, and what is skipped and why."""
-    from tests import of_conversion, of_ends, of_report, of_server, of_settings, of_solve
+    from tests import of_client, of_conversion, of_ends, of_puzzlelist, of_report, of_server, of_settings, of_solve
 
     loader, why = unittest.TestLoader(), missing()
-    suites = [loader.loadTestsFromModule(module) for module in (of_server, of_ends, of_conversion, of_settings, of_solve)]
+    plain = (of_server, of_ends, of_client, of_conversion, of_puzzlelist, of_settings, of_solve)
+    suites = [loader.loadTestsFromModule(module) for module in plain]
     suites.append(loader.loadTestsFromTestCase(of_report.Reports))
     if why is None:
-        from tests import of_choices, of_games, of_hands, of_records, of_thoughts, of_windows, pages
+        from tests import of_choices, of_games, of_hands, of_puzzles, of_records, of_thoughts, of_windows, pages
 
         pages.Pages.shots = options.shots
-        modules = (of_games, of_hands, of_choices, of_thoughts, of_records, of_windows)
+        modules = (of_games, of_hands, of_choices, of_thoughts, of_puzzles, of_records, of_windows)
         suites += [loader.loadTestsFromModule(module) for module in modules]
         suites.append(loader.loadTestsFromTestCase(of_report.in_browser(options.shots)))
     return unittest.TestSuite(chosen(suites, options.names)), why

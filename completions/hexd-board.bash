@@ -2,7 +2,7 @@
 _hexd_board() {
     local modes=''
     # All options, and those that take a value.
-    local options=' --playouts --weight --workers --open --port --listen --program --help '
+    local options=' --playouts --weight --workers --open --port --listen --program --help --version '
     local valued=' --playouts --weight --workers --port --listen --program '
     local at word name=${COMP_WORDS[COMP_CWORD-1]}
     # bash cuts `--name=value` in three at the sign.

@@ -8,3 +8,4 @@ complete -c hexd-board -l port -x -d 'The port on which it listens, 0 for any fr
 complete -c hexd-board -l listen -x -d 'The address on which it listens: an address of this machine'
 complete -c hexd-board -l program -r -F -d 'The program hexd: a file'
 complete -c hexd-board -l help -d 'Say the options'
+complete -c hexd-board -l version -d 'Say the version'

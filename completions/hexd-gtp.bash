@@ -2,8 +2,8 @@
 _hexd_gtp() {
     local modes=''
     # All options, and those that take a value.
-    local options=' --size --workers --playouts --seed --words --expand --weight --hsearch --solve --look --steps --budget --trace --strength --seconds --swap --resign '
-    local valued=' --size --workers --playouts --seed --words --expand --weight --hsearch --solve --look --steps --budget --trace --strength --seconds --swap '
+    local options=' --size --workers --playouts --seed --words --expand --weight --hsearch --solve --look --steps --budget --trace --strength --seconds --swap --resign --ponder --log --config '
+    local valued=' --size --workers --playouts --seed --words --expand --weight --hsearch --solve --look --steps --budget --trace --strength --seconds --swap --resign --ponder --log --config '
     local at word name=${COMP_WORDS[COMP_CWORD-1]}
     # bash cuts `--name=value` in three at the sign.
     [ "$name" = = ] && name=${COMP_WORDS[COMP_CWORD-2]}
@@ -17,7 +17,10 @@ _hexd_gtp() {
         --swap)
             mapfile -t COMPREPLY < <(compgen -W 'on off' -- "$2")
             return ;;
-        --trace)
+        --ponder)
+            mapfile -t COMPREPLY < <(compgen -W 'on off' -- "$2")
+            return ;;
+        --trace | --log | --config)
             compopt -o filenames 2>/dev/null
             mapfile -t COMPREPLY < <(compgen -f -- "$2")
             return ;;

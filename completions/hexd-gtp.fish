@@ -16,4 +16,7 @@ complete -c hexd-gtp -l trace -r -F -d 'The name of a file, to which each search
 complete -c hexd-gtp -l strength -x -a 'quick normal strong' -d 'How strongly hexd plays, by board/settings.json; of no effect if --playouts, --weight, --look or --solve is given and this is not: quick or normal or strong'
 complete -c hexd-gtp -l seconds -x -d 'How many seconds a move may take: 1 to 3,600'
 complete -c hexd-gtp -l swap -x -a 'on off' -d 'Whether a genmove swaps if White is likelier to win then, and opens near even: on or off'
-complete -c hexd-gtp -l resign -d 'Answer resign if each move is proved to lose'
+complete -c hexd-gtp -l resign -x -d 'Answer resign if each move is proved to lose, or hexd gives its move less than so many per cent: 0 to 100'
+complete -c hexd-gtp -l ponder -x -a 'on off' -d 'Whether it looks for its answer to the reply that it expects on the other player\'s time: on or off'
+complete -c hexd-gtp -l log -r -F -d 'The name of a file, to which all lines are added that come and go: a text of at least one byte'
+complete -c hexd-gtp -l config -r -F -d 'The name of a file with options, a line each, as strength quick: a text of at least one byte'

@@ -2,7 +2,7 @@
 _hexd_report() {
     local modes=''
     # All options, and those that take a value.
-    local options=' --playouts --weight --workers --program --help '
+    local options=' --playouts --weight --workers --json --program --help --version '
     local valued=' --playouts --weight --workers --program '
     local at word name=${COMP_WORDS[COMP_CWORD-1]}
     # bash cuts `--name=value` in three at the sign.

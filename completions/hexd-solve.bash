@@ -2,7 +2,7 @@
 _hexd_solve() {
     local modes=''
     # All options, and those that take a value.
-    local options=' --budget --hsearch --program --help '
+    local options=' --budget --hsearch --json --program --help --version '
     local valued=' --budget --hsearch --program '
     local at word name=${COMP_WORDS[COMP_CWORD-1]}
     # bash cuts `--name=value` in three at the sign.

@@ -2,8 +2,8 @@
 _hexmatch() {
     local modes=''
     # All options, and those that take a value.
-    local options=' --size --games --threads --seed --records --playouts-a --playouts-b --words-a --words-b --expand-a --expand-b --weight-a --weight-b --solve-a --solve-b --look-a --look-b '
-    local valued=' --size --games --threads --seed --records --playouts-a --playouts-b --words-a --words-b --expand-a --expand-b --weight-a --weight-b --solve-a --solve-b --look-a --look-b '
+    local options=' --size --games --threads --seed --records --opening --playouts-a --playouts-b --words-a --words-b --expand-a --expand-b --weight-a --weight-b --solve-a --solve-b --look-a --look-b '
+    local valued=' --size --games --threads --seed --records --opening --playouts-a --playouts-b --words-a --words-b --expand-a --expand-b --weight-a --weight-b --solve-a --solve-b --look-a --look-b '
     local at word name=${COMP_WORDS[COMP_CWORD-1]}
     # bash cuts `--name=value` in three at the sign.
     [ "$name" = = ] && name=${COMP_WORDS[COMP_CWORD-2]}

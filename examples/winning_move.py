@@ -25,7 +25,7 @@ def ends_of(lines):
     for name, *words in map(str.split, lines):
         if name == "adj":
             ends.append(set(words))
-        elif name == "or":
+        elif name in ("or", "lift"):
             ends.append(ends[int(words[0])])
         elif name in ("and", "key"):
             ends.append(ends[int(words[0])] ^ ends[int(words[1])])
@@ -40,10 +40,12 @@ def winning_move(certificate):
     kind, number = lines[-1].split()
     if kind == "full":
         return None
-    name, *words = lines[int(number)].split()
+    name, *words = lines[at := int(number)].split()
+    while name == "lift":  # Of an entry of the empty scope it gives the same one.
+        name, *words = lines[at := int(words[0])].split()
     if name == "move":
         return words[0]
-    ends = ends_of(lines[: int(number)])
+    ends = ends_of(lines[:at])
     (cell,) = ends[int(words[0])] & ends[int(words[1])]
     return cell
 

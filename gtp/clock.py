@@ -1,20 +1,16 @@
-"""How long a move may take, by what a driver says of time, and how much hexd is asked to search in that time. It knows no
-process: who measures tells it how long a search took."""
+"""How long a move may take, by what a driver says of time. It knows no process: gtp/pace.py has how much is searched then."""
 
 from dataclasses import dataclass
 
-import settings
-
-TABLE = settings.TABLE["clock"]
-# What a search may be given more of, or less.
-SCALED = ("look", "solve", "playouts")
-# Of this many searches the slowest counts.
-MEASURED = 3
-# Of the empty cells so many are expected to be filled by a player's further moves, and no fewer than so many moves.
-SHARE_OF_CELLS, FEWEST_MOVES = 0.3, 8
+# So many of the cells are expected to be filled by a player's moves, and no fewer than so many moves are ahead of him.
+SHARE_OF_CELLS, FEWEST_MOVES = 0.25, 8
+# In the first third of these moves each gets so many times as much as one behind it.
+EARLY, THIRD = 1.5, 1 / 3
 # What is left out of a move's time: a share, and seconds for the way to the driver and back.
-SPARE, LAG = 0.1, 0.05
+SPARE, LAG = 0.04, 0.02
 LEAST_SECONDS = 0.01
+# A machine may grow so many times slower between two moves.
+SLOWER = 4
 
 
 @dataclass
@@ -24,6 +20,36 @@ class Left:
     main: float
     period: float | None = None
     moves: int = 1
+
+
+@dataclass(frozen=True)
+class Allowed:
+    """What a move may take: the seconds that it aims at, and those after which the time is lost, if it can be."""
+
+    seconds: float
+    flag: float | None = None
+
+    @classmethod
+    def of(cls, share, flag=None):
+        """A move whose share is so many seconds."""
+        return cls(max(LEAST_SECONDS, share * (1 - SPARE) - LAG), flag)
+
+    @property
+    def is_risky(self):
+        """Whether the time would be lost on a machine that has grown slower."""
+        return self.flag is not None and SLOWER * self.seconds > self.flag
+
+    def limit(self, passed):
+        """How long a search may go on when so many seconds have passed."""
+        return None if self.flag is None else max(0.0, self.flag * (1 - SPARE) - LAG - passed)
+
+
+def share_of_main(cells, empty):
+    """Which share of the main time that is left is for the next move, on a board of so many cells."""
+    expected, made = max(FEWEST_MOVES, cells * SHARE_OF_CELLS), (cells - empty) / 2
+    third = expected * THIRD
+    early, late = max(0.0, third - made), min(expected - made, expected - third)
+    return (EARLY if made < third else 1) / max(FEWEST_MOVES, EARLY * early + late)
 
 
 class Clock:
@@ -71,46 +97,18 @@ class Clock:
         else:
             self.left[colour] = Left(0.0, self.period, self.moves) if self.period else Left(0.0)
 
-    def seconds(self, colour, empty):
-        """How long a player's move may take with so many cells empty, or None without a clock."""
-        if not self.is_on:
-            return None
+    def share(self, colour, cells, empty):
+        """The seconds that are for a player's move, on a board of so many cells of which so many are empty."""
         left = self.left[colour]
-        if left.period is None:
-            wanted = left.main / max(FEWEST_MOVES, empty * SHARE_OF_CELLS) + self.period / self.moves
-        else:
-            wanted = left.period / left.moves
-        return max(LEAST_SECONDS, wanted * (1 - SPARE) - LAG)
+        if left.period is not None:
+            return left.period / left.moves
+        return left.main * share_of_main(cells, empty) + self.period / self.moves
 
+    def flag(self, colour):
+        """After how many seconds a player's time is lost, if he doesn't move."""
+        left = self.left[colour]
+        return left.main + self.period if left.period is None else left.period
 
-class Pace:
-    """How much hexd searches in a time. A factor stands for options: those of the table's unit, so many times."""
-
-    def __init__(self, size):
-        self.size, self.unit = size, settings.strength_options(TABLE["unit"], size)
-        self.factor, self.paces = None, []
-
-    def first(self):
-        """The options of the first search, and their factor: the least of what they are of the unit's."""
-        given = settings.strength_options(TABLE["first"], self.size)
-        return given, min(given[name] / self.unit[name] for name in SCALED if given[name] and self.unit[name])
-
-    def options(self, seconds):
-        """hexd's options for a move that may take so long."""
-        if not self.paces:
-            given, self.factor = self.first()
-            return given
-        slowest = max(self.paces)
-        wanted = min(TABLE["share"] * seconds / slowest, TABLE["growth"] * self.factor)
-        # A new hexd isn't worth a small change.
-        if not (0.8 <= wanted / self.factor <= 1.2 and slowest * self.factor <= seconds):
-            self.factor = wanted
-        return {**self.unit, **{name: self.scaled(name) for name in SCALED if self.unit[name]}}
-
-    def scaled(self, name):
-        most = min(TABLE["most"], settings.ASKED[name][1])
-        return max(1, min(most, round(self.unit[name] * self.factor)))
-
-    def note(self, seconds):
-        """Takes down how long a search with the last options took."""
-        self.paces = [*self.paces, max(seconds, 1e-6) / self.factor][-MEASURED:]
+    def allowed(self, colour, cells, empty):
+        """What a player's move may take, or None without a clock."""
+        return Allowed.of(self.share(colour, cells, empty), self.flag(colour)) if self.is_on else None

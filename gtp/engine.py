@@ -1,7 +1,9 @@
 """What a line of a driver asks, and a session of hexd of which commands are asked."""
 
 import contextlib
+import ctypes
 import os
+import select
 import signal
 import subprocess
 from pathlib import Path
@@ -10,12 +12,18 @@ from programs import HEXD, Hexd, HexdEnded
 
 # The status of what ends before the program begins, as in tools/program.bash.
 NOT_STARTED = 125
+# The C library, and a number of its linux/prctl.h.
+LIBRARY, PR_SET_PDEATHSIG = ctypes.CDLL(None), 1
 # What isn't hexd has so many seconds to end once its input has ended.
 GRACE = 5
 
 
 class Refused(Exception):
     """A command's failure, with its message."""
+
+
+class TooLate(Exception):
+    """hexd hasn't answered in the time that it had. It goes on."""
 
 
 class NotStarted(Exception):
@@ -34,26 +42,39 @@ class Request:
         self.args = rest.split()
 
 
+def end_with(parent):
+    """Has the system kill this process once its parent ends, however that comes."""
+    LIBRARY.prctl(PR_SET_PDEATHSIG, signal.SIGKILL)
+    # It may have ended before.
+    if os.getppid() != parent:
+        os._exit(NOT_STARTED)
+
+
 class Engine(Hexd):
-    """A session of hexd, of which commands are asked. Its processes end with the filter (end_all)."""
+    """A session of hexd, of which commands are asked. Its processes end with the filter (end_all, end_with)."""
 
     running = set()
 
     def __init__(self, words):
+        # By these the seed of its next move is known.
+        self.seed, self.made = int(next((word[7:] for word in words if word.startswith("--seed=")), 0)), 0
         try:
-            super().__init__(words)
+            super().__init__(words, preexec_fn=lambda parent=os.getpid(): end_with(parent))
         except OSError as fault:
             raise NotStarted(fault.strerror, NOT_STARTED) from None
         self.running.add(self.process)
 
-    def ask(self, command):
-        """The text of a command's success."""
+    def ask(self, command, limit=None):
+        """The text of a command's success, which has so many seconds, or as many as it takes."""
         self.send(command + b"\n")
+        if limit is not None and not select.select([self.process.stdout], [], [], limit)[0]:
+            raise TooLate
         answer = self.answer()
         if not answer.endswith(b"\n\n"):
             raise HexdEnded
         if answer[:1] == b"?":
             raise Refused(answer[2:-2])
+        self.made += command.startswith(b"genmove")
         return answer[2:-2]
 
     def tell(self, command):
@@ -98,6 +119,17 @@ class Engine(Hexd):
         status = super().close()
         self.running.discard(self.process)
         return status
+
+
+def beside(words, given):
+    """What another run of hexd with these words writes on an input. It ends with the filter too."""
+    pipe = subprocess.PIPE
+    process = subprocess.Popen([HEXD, *words], stdin=pipe, stdout=pipe, preexec_fn=lambda parent=os.getpid(): end_with(parent))
+    Engine.running.add(process)
+    try:
+        return process.communicate(given)[0]
+    finally:
+        Engine.running.discard(process)
 
 
 def end_all(number, _):

@@ -16,8 +16,11 @@ from pathlib import Path
 
 ROOT = Path(__file__).resolve().parent.parent
 sys.path[1:1] = [str(ROOT / "tools"), str(ROOT / "board")]
-from commands import OWN, Session, is_number
+from analysis import Analysis
+from commands import OWN, Session
 from engine import NotStarted, Refused, Request, end_all
+from forms import is_number
+from log import Log
 from programs import HexdEnded
 from words import Words
 
@@ -48,33 +51,48 @@ def read_request(line):
     return Request(number, name, rest.strip()) if text else None
 
 
-def give(text):
-    """Writes all of a text."""
-    try:
-        while text:
-            text = text[os.write(1, text) :]
-    except OSError:
-        raise WriteFault from None
-
-
 class Filter:
     """A driver's input, and the session that answers it."""
 
     def __init__(self, words):
-        self.session = Session(Words.of(words))
+        words = Words.of(words)
+        self.log = Log(words.log)
+        self.session = Session(words)
         # What was read and is not yet handed over.
         self.kept = b""
 
-    def read(self):
-        """The next bytes of the input; none at its end."""
+    def give(self, text):
+        """Writes all of a text."""
         try:
-            ready, _, _ = select.select([0, self.session.hexd.process.stdout], [], [])
-            # Nothing is left to be answered, so what comes from hexd is its end.
-            if 0 not in ready:
-                raise HexdEnded
+            if text:
+                self.log.note(b"<", text)
+            while text:
+                text = text[os.write(1, text) :]
+        except OSError:
+            raise WriteFault from None
+
+    def read(self):
+        """The next bytes of the input; none at its end. Until they come it may ponder."""
+        self.session.begin_pondering()
+        try:
+            while 0 not in self.ready():
+                pass
+            self.session.pause_pondering()
             return os.read(0, LONGEST_LINE)
         except OSError:
             raise ReadFault from None
+
+    def ready(self):
+        """Waits until there is input, or something of what is pondered, which hears it; says which can be read."""
+        hexd, ponder = self.session.hexd.process.stdout, self.session.ponder
+        stream = ponder and ponder.stream
+        ready, _, _ = select.select([0, hexd, *filter(None, [stream])], [], [])
+        if stream in ready:
+            ponder.hear()
+        elif 0 not in ready:
+            # Nothing is left to be answered, so what comes from hexd is its end.
+            raise HexdEnded
+        return ready
 
     def piece(self):
         """The next line with its line feed, or the next bytes of one that is too long; at the end what is left."""
@@ -85,6 +103,8 @@ class Filter:
             self.kept += more
         end = self.kept.find(b"\n") + 1 or len(self.kept)
         piece, self.kept = self.kept[:end], self.kept[end:]
+        if piece:
+            self.log.note(b">", piece)
         return piece
 
     def hand_over(self, piece):
@@ -104,6 +124,8 @@ class Filter:
                 text = OWN[request.name](self.session, request)
             except Refused as refused:
                 return b"?%s %s\n\n" % (request.number, refused.args[0])
+            if isinstance(text, Analysis):
+                return self.stream(request, text)
             if text is not None:
                 return b"=%s %s\n\n" % (request.number, text)
         self.hand_over(piece)
@@ -114,11 +136,31 @@ class Filter:
             self.session.changed(request.name)
         return answer
 
+    def stream(self, request, analysis):
+        """Writes the lines of an analysis as they come, until there is more input, or its end; gives what ends the answer."""
+        self.give(b"=%s \n" % request.number)
+        with analysis:
+            while not self.kept and 0 not in self.awaited(analysis):
+                self.give(analysis.due())
+        return b"\n"
+
+    @staticmethod
+    def awaited(analysis):
+        """Waits until there is input, or something of an analysis, which hears it, or a line is due; says which can be read."""
+        streams = [0, *filter(None, [analysis.stream])]
+        try:
+            ready, _, _ = select.select(streams, [], [], analysis.waiting())
+        except OSError:
+            raise ReadFault from None
+        if analysis.stream in ready:
+            analysis.hear()
+        return ready
+
     def run(self):
         """Answers line after line, and gives the status in the end."""
         try:
             while piece := self.piece():
-                give(self.answer(piece))
+                self.give(self.answer(piece))
         except HexdEnded:
             pass
         except ReadFault:
@@ -128,6 +170,8 @@ class Filter:
         except WriteFault:
             self.session.hexd.close()
             return WRITE_FAULT
+        finally:
+            self.session.stop_pondering()
         return self.session.hexd.close()
 
 
@@ -150,3 +194,6 @@ if __name__ == "__main__":
     except NotStarted as fault:
         os.write(2, f"hexd-gtp: {fault}\n".encode())
         sys.exit(fault.status)
+    except OSError as fault:
+        os.write(2, f"hexd-gtp: {fault.filename or 'the log'}: {fault.strerror}\n".encode())
+        sys.exit(WRITE_FAULT)

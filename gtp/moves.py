@@ -1,100 +1,29 @@
-"""How the filter moves: hexd's move by a strength or by the clock, in a hexd of the options that are wanted; a swap, an opening
-near even, a resignation. Whether a swap may come and who wins are hexd's answers."""
+"""How the filter moves: hexd's move by a strength or by the clock, a swap, an opening near even, a resignation. Whether a swap
+may come and who wins are hexd's answers."""
 
-import os
 import re
 import time
 
 import settings
-from clock import Clock, Pace
-from engine import Engine, Refused, time_of
-from openings import Openings
+from openings import Openings, guessed_share
 from programs import HEXD
+from timed import Timed
 
-LARGEST_SIZE = 11
 SWAP = b"swap-pieces"
-# What the clock does to a game is told once.
-BY_A_CLOCK = b"hexd-gtp: by the clock: moves depend on the time that searches took, so this game can't be repeated\n"
 # Values of look-report go so far.
 CERTAIN = 1_000
+# How likely a player wins of whom nothing is known.
+EVEN = 0.5
 
 
-class Mover:
-    """hexd with the options that are wanted, which another hexd takes over if others are."""
+class Mover(Timed):
+    """A hexd that also swaps, and opens near even."""
 
     def __init__(self, words, now=time.monotonic):
-        self.words, self.now = words, now
-        self.clock, self.pace, self.is_told = Clock(), None, False
-        self.size, self.seed = int(words.value("--size") or LARGEST_SIZE), None
-        self.given = self.options_of_strength()
-        self.hexd = self.started()
-        self.hexd.greet()
+        super().__init__(words, now)
         self.openings = Openings(HEXD)
         # Whether the last move came of a genmove of hexd's.
         self.is_by_search = False
-        # The processor's time of those that were ended.
-        self.spent = 0.0
-
-    def options_of_strength(self):
-        return settings.strength_options(self.words.strength, self.size) if self.words.strength else {}
-
-    def started(self):
-        return Engine(self.words.of_hexd(self.given, self.seed))
-
-    def has_trace(self):
-        """Whether traces are written, of which the file would be emptied by another hexd's first."""
-        return self.words.value("--trace") is not None
-
-    def renew(self):
-        """Puts another hexd, with the options and the seed that are wanted, in the place of this one, with its game."""
-        record, last = self.hexd.ask(b"printsgf"), self.hexd
-        self.hexd = self.started()
-        try:
-            self.hexd.load_text(record)
-        except Refused:
-            last, self.hexd = self.hexd, last
-            raise
-        finally:
-            self.spent += time_of(last.process)
-            last.close()
-
-    def learn_size(self):
-        """The size of the board as it is now, and how many cells are empty."""
-        rows = self.hexd.ask(b"showboard").splitlines()[2:]
-        if len(rows) != self.size:
-            self.size, self.pace = len(rows), None
-        return sum(row.count(b".") for row in rows)
-
-    def fit(self, colour):
-        """Has a hexd of the options that are wanted for a player's move; whether they come of the clock."""
-        if not self.words.strength or self.has_trace():
-            return False
-        empty = self.learn_size()
-        seconds = self.words.seconds or self.clock.seconds(colour, empty)
-        if seconds:
-            self.pace = self.pace or Pace(self.size)
-            wanted = self.pace.options(seconds)
-        else:
-            wanted = self.options_of_strength()
-        if wanted != self.given:
-            last, self.given = self.given, wanted
-            try:
-                self.renew()
-            except Refused:
-                self.given = last
-        if seconds and not self.is_told:
-            os.write(2, BY_A_CLOCK)
-            self.is_told = True
-        return bool(seconds)
-
-    def searched(self, colour):
-        """hexd's own move, which it has played."""
-        by_clock, began = self.fit(colour), self.now()
-        cell = self.hexd.ask(b"genmove %s" % colour)
-        # One that is certified, or lost, may have taken less than it was given.
-        if by_clock and self.hexd.tell(b"search-report") is not None:
-            self.pace.note(self.now() - began)
-        return cell
 
     def moved(self, colour):
         """Moves for a player, and gives the move."""
@@ -128,7 +57,9 @@ class Mover:
         """hexd's own move, or a swap in its place if White, who may, is likelier to lose by it and isn't proved to win."""
         cell = self.searched(colour)
         self.is_by_search = True
-        if colour != b"W" or not self.words.swaps or self.hexd.ask(b"printsgf").count(b";") > 3 or self.share(cell) >= 0.5:
+        if colour != b"W" or not self.words.swaps or self.hexd.ask(b"printsgf").count(b";") > 3:
+            return cell
+        if self.share_without_swap(cell) >= EVEN:
             return cell
         self.hexd.ask(b"undo")
         if self.may_swap() and self.winner_of_opening() != "white":
@@ -136,6 +67,15 @@ class Mover:
             return self.swap()
         self.hexd.ask(b"play %s %s" % (colour, cell))
         return cell
+
+    def share_without_swap(self, cell):
+        """How likely White wins by his first move: by a guess of the opening, unless hexd looked at more nodes than that did."""
+        share, judged = self.share(cell), re.match(rb"nodes (\d+)", self.hexd.tell(b"look-report") or b"")
+        opening = re.match(rb"\(;FF\[4\]GM\[11\]SZ\[(\d+)\];B\[(\w+)\]", self.hexd.ask(b"printsgf"))
+        guess = guessed_share(int(opening[1]), opening[2].decode()) if opening else None
+        is_deeper = judged and int(judged[1]) > settings.GUESSED["options"]["look"]
+        is_decided = self.is_lost() or self.planned().startswith(b"win")
+        return share if guess is None or is_deeper or is_decided else 1 - guess
 
     def swap(self):
         self.hexd.ask(b"play w " + SWAP)
@@ -150,21 +90,34 @@ class Mover:
 
     def is_lost(self):
         """Whether before hexd's last move each move lost."""
-        return self.hexd.ask(b"mustplay").startswith(b"lost yes")
+        return self.planned().startswith(b"lost yes")
+
+    def planned(self):
+        """What hexd planned for its last move; nothing if its search was ended for want of time."""
+        return self.hexd.tell(b"mustplay") or b""
+
+    def gives_up(self, move):
+        """Whether this move of hexd's is resigned instead: if each move lost, or it is as unlikely to win as the words say."""
+        if self.words.resign is None:
+            return False
+        return self.is_lost() or self.share(move) < self.words.resign / 100
 
     def share(self, cell):
         """How likely the last move's player wins, from 0 to 1: by proof, else by the look-ahead, else by the playouts."""
-        if self.hexd.ask(b"mustplay").startswith(b"win"):
+        if self.planned().startswith(b"win"):
             return 1.0
         if self.is_lost():
             return 0.0
         row = self.row_of(b"look-report", cell)
         if row:
-            return {b"won": 1.0, b"lost": 0.0}.get(row[-1], int(row[2]) / CERTAIN)
+            return {b"won": 1.0, b"lost": 0.0}.get(b"".join(row[3:4]), int(row[2]) / CERTAIN)
         row = self.row_of(b"search-report", cell)
-        return int(row[2]) / max(1, int(row[1]))
+        return int(row[2]) / max(1, int(row[1])) if row else EVEN
 
     def row_of(self, report, cell):
         """The words of a cell's line in a report; None if there is no report."""
-        lines = (self.hexd.tell(report) or b"").splitlines()[1:]
-        return next((row for row in map(bytes.split, lines) if row[0] == cell), None)
+        return next((row for row in self.rows_of(report) if row[0] == cell), None)
+
+    def rows_of(self, report):
+        """The words of each cell's line in a report; none if there is no report."""
+        return list(map(bytes.split, (self.hexd.tell(report) or b"").splitlines()[1:]))

@@ -2,6 +2,7 @@
 """bin/hexd-gtp over the built program: what it answers itself, sessions that have to be the same without it, and how it
 ends. It says nothing if all is as it has to be."""
 
+import json
 import os
 import re
 import resource
@@ -12,7 +13,10 @@ import tempfile
 import time
 from pathlib import Path
 
+import test_analysis
+import test_match
 import test_moves
+import test_ponder
 
 BIN = Path(__file__).resolve().parent.parent / "bin"
 WITH, WITHOUT = [str(BIN / "hexd-gtp")], [str(BIN / "hexd"), "htp"]
@@ -73,7 +77,12 @@ ROWS = [
     ("kgs-time_settings fischer", "? syntax error\n\n"),
     ("kgs-time_settings", "? syntax error\n\n"),
     ("search-visits", "? no search\n\n"),
+    ("look-worths", "? no look\n\n"),
+    ("look-worths b", "? syntax error\n\n"),
     ("mustplay-cells", "? no search\n\n"),
+    ("threat-cells", "? no search\n\n"),
+    ("threat-cells x", "? syntax error\n\n"),
+    ("wincert-cells 1", "? syntax error\n\n"),
     ("play b b2", "= \n\n"),
     ("play w a1", "= \n\n"),
     ("printsgf", "= (;FF[4]GM[11]SZ[3];B[b2];W[a1])\n\n"),
@@ -102,9 +111,12 @@ ROWS = [
     ("printsgf", "= (;FF[4]GM[11]SZ[3];B[b1];W[swap-pieces])\n\n"),
     ("loadsgf {folder}/a  game.sgf 1", "= \n\n"),
     ("printsgf", "= (;FF[4]GM[11]SZ[2])\n\n"),
-    ("loadsgf {folder}/other.sgf 9", "= \n\n"),
+    ("loadsgf {folder}/other.sgf 9", "? cannot load file: it has no move 9: its moves are 1 to 3\n\n"),
+    ("loadsgf {folder}/other.sgf 0", "? cannot load file: it has no move 0: its moves are 1 to 3\n\n"),
+    ("loadsgf {folder}/none 0", "? cannot load file\n\n"),
+    ("printsgf", "= (;FF[4]GM[11]SZ[2])\n\n"),
+    ("loadsgf {folder}/other.sgf 4", "= \n\n"),
     ("printsgf", "= (;FF[4]GM[11]SZ[3];B[b1];W[swap-pieces];B[c3])\n\n"),
-    ("loadsgf {folder}/other.sgf 0", "? cannot load file\n\n"),
     ("loadsgf {folder}/game 2", "= \n\n"),
     ("printsgf", "= (;FF[4]GM[11]SZ[1];B[a1])\n\n"),
     ("loadsgf {folder}/other.sgf", "= \n\n"),
@@ -112,6 +124,65 @@ ROWS = [
     ("loadsgf {folder}/a  game.sgf", "= \n\n"),
     ("loadsgf", "? syntax error\n\n"),
     ("printsgf", "= (;FF[4]GM[11]SZ[2];B[a2])\n\n"),
+    # Moves of a row are played together, or none is.
+    ("boardsize 3", "= \n\n"),
+    ("gogui-play_sequence b c2 White Swap B a1", "= \n\n"),
+    ("printsgf", "= (;FF[4]GM[11]SZ[3];B[c2];W[swap-pieces];B[a1])\n\n"),
+    ("gogui-play_sequence w c3 b c3", "? illegal move\n\n"),
+    ("gogui-play_sequence w", "? syntax error\n\n"),
+    ("gogui-play_sequence w c3 red c2", "? syntax error\n\n"),
+    ("gogui-play_sequence w c3 b 3", "? syntax error\n\n"),
+    ("gogui-play_sequence", "= \n\n"),
+    ("printsgf", "= (;FF[4]GM[11]SZ[3];B[c2];W[swap-pieces];B[a1])\n\n"),
+    ("is_legal w a1", "= 0\n\n"),
+    ("is_legal w c3", "= 1\n\n"),
+    ("is_legal w swap", "= 0\n\n"),
+    ("is_legal w z9", "= 0\n\n"),
+    ("is_legal w", "? syntax error\n\n"),
+    ("is_legal w 3", "? syntax error\n\n"),
+    ("undo 4", "? cannot undo\n\n"),
+    ("undo x", "? syntax error\n\n"),
+    ("undo 1 1", "? syntax error\n\n"),
+    ("undo 0", "= \n\n"),
+    ("undo 2", "= \n\n"),
+    ("printsgf", "= (;FF[4]GM[11]SZ[3];B[c2])\n\n"),
+    ("is_legal w swap", "= 1\n\n"),
+    ("play w resign", "= \n\n"),
+    ("is_legal w swap", "= 0\n\n"),
+    ("undo 3", "? cannot undo\n\n"),
+    ("final_score", "= B+R\n\n"),
+    ("undo 2", "= \n\n"),
+    ("printsgf", "= (;FF[4]GM[11]SZ[3])\n\n"),
+    ("final_score", "? cannot score\n\n"),
+    # A position has no history.
+    ("set_position b c3 WHITE A1 b a2", "= \n\n"),
+    ("printsgf", "= (;FF[4]GM[11]SZ[3]AB[a2][c3]AW[a1])\n\n"),
+    ("undo", "? cannot undo\n\n"),
+    ("set_position b c3 w c3", "? illegal position\n\n"),
+    ("set_position b d4", "? illegal position\n\n"),
+    ("set_position b", "? syntax error\n\n"),
+    ("set_position b swap", "? syntax error\n\n"),
+    ("set_position b a1]W[b2", "? syntax error\n\n"),
+    ("savesgf {folder}/a saved game.sgf", "= \n\n"),
+    ("savesgf {folder}/none/x", "? cannot write file\n\n"),
+    ("savesgf {folder}/a pipe", "? cannot write file\n\n"),
+    ("savesgf {folder}", "? cannot write file\n\n"),
+    ("savesgf", "? syntax error\n\n"),
+    ("set_position", "= \n\n"),
+    ("printsgf", "= (;FF[4]GM[11]SZ[3])\n\n"),
+    ("loadsgf {folder}/a saved game.sgf", "= \n\n"),
+    ("printsgf", "= (;FF[4]GM[11]SZ[3]AB[a2][c3]AW[a1])\n\n"),
+    ("solve-state red", "? syntax error\n\n"),
+    ("solve-state w", "? not to move\n\n"),
+    ("gogui-play_sequence b b2 w b1 b c1 w a3 b b3", "= \n\n"),
+    ("solve-state w", "= black\n\n"),
+    ("is_legal w c2", "= 0\n\n"),
+    ("param_hexd seed", "? syntax error\n\n"),
+    ("param_hexd depth 3", "? syntax error\n\n"),
+    ("param_hexd workers 65", "? syntax error\n\n"),
+    ("param_hexd workers 0", "? syntax error\n\n"),
+    ("param_hexd strength none", "? syntax error\n\n"),
+    ("param_hexd seed 5", "= \n\n"),
     ("quit now", "? syntax error\n\n"),
     ("quit", "= \n\n"),
     ("name", ""),
@@ -123,7 +194,7 @@ SAME = [
     (GAME.encode() + b"printsgf\n", ["--size", "5", "--playouts", "500"]),
     (GAME.encode() + b"printsgf\n", ["--size", "4", "--playouts", "500", "--hsearch", "off", "--seed=7"]),
     (b"1 na\0me\r\n\r\n # no command\n\tname\t#\x7f\n0000000007 version\n", SMALL),
-    (b"99999999999 name\n12\n 5 \n\nn\xe4me\nplay b z9\nplay b\nplay red resign\nundo\nundo 1\nlist_commands 1\n", SMALL),
+    (b"99999999999 name\n12\n 5 \n\nn\xe4me\nplay b z9\nplay b\nplay red resign\nundo\nlist_commands 1\n", SMALL),
     (b"name" + b" " * 4092 + b"\nname" + b" " * 4093 + b"\n#" + b"x" * 70000 + b"\nname\n", SMALL),
     (b"name\nquit\nname\n", SMALL),
     (b"name\nversion", SMALL),
@@ -185,6 +256,106 @@ def same_faults():
             yield f"{given[:60]} {words}: with it {with_it}, without {without}"
 
 
+# Takes half a second of the processor for a check, and becomes hexd.
+BUSY = """#!/usr/bin/env python3
+import os, sys, time
+while sys.argv[1] == "check" and time.process_time() < 0.5:
+    pass
+os.execv({hexd!r}, sys.argv)
+"""
+
+
+def time_fault():
+    """Whether the processor's time of other processes counts: a certificate says that White swaps, and is checked."""
+    with tempfile.TemporaryDirectory() as folder:
+        busy = Path(folder, "hexd")
+        busy.write_text(BUSY.format(hexd=str(BIN / "hexd")))
+        busy.chmod(0o755)
+        done = subprocess.run(
+            WITH + ["--size", "5"],
+            input=b"play b c3\ngenmove w\ncputime\n",
+            capture_output=True,
+            timeout=LIMIT,
+            env={**os.environ, "HEXD": str(busy)},
+        )
+    _, move, spent, _ = done.stdout.decode().split("\n\n")
+    return None if move == "= swap-pieces" and float(spent[2:]) >= 0.5 else f"the processor's time: {done}"
+
+
+PARAMETERS = "[list/quick/normal/strong] strength {}\n[string] seconds {}\n[string] nodes {}\n[string] seed {}\n[string] workers {}"
+# What the filter says of its parameters, and how it starts hexd then: its words, and what is set between.
+PARAMETER_ROWS = [
+    (["--size=11"], "", ("normal", 0, 250, 0, 1), {"look": "250", "playouts": "1000", "weight": "0"}),
+    (["--size=5", "--strength=quick", "--seed=7"], "nodes 9;workers 2;seed 3", ("quick", 0, 9, 3, 2), {"look": "9", "seed": "3", "workers": "2"}),
+    (["--look=3"], "strength strong", ("strong", 0, 2000, 0, 1), {"look": "2000"}),
+    (["--playouts=30"], "seconds 9", ("none", 9, 0, 0, 1), {"playouts": "30", "look": None}),
+]
+
+
+def parameter_faults():
+    """What parameters say, and that hexd is started so."""
+    for words, lines, said, options in PARAMETER_ROWS:
+        process, _ = start(words)
+        for line in lines.split(";") if lines else []:
+            process.stdin.write(f"param_hexd {line}\n".encode())
+        process.stdin.write(b"param_hexd\n")
+        process.stdin.flush()
+        lost = "= \n\n" * (lines.count(";") + 1 if lines else 0)
+        want = lost + "= " + PARAMETERS.format(*said) + "\n\n"
+        got = process.stdout.read(len(want)).decode()
+        [hexd] = Path(f"/proc/{process.pid}/task/{process.pid}/children").read_text().split()
+        command = Path(f"/proc/{hexd}/cmdline").read_text().split("\0")
+        asked = dict(word[2:].split("=") for word in command if word.startswith("--"))
+        process.communicate(timeout=LIMIT)
+        if got != want or not all(asked.get(name) == value for name, value in options.items()):
+            yield f"{words}, param_hexd {lines}: {got}, and {command}"
+
+
+def solved_fault():
+    """Whether the solver says who wins, with what it came to on standard error."""
+    status, got, errors = run(WITH, ["--size", "4"], b"play b a1\nsolve-state w\nsolve-state\nundo\nsolve-state b\n")
+    lines = r"(?:hexd-gtp: solve-state: (?:unknown \d+|won \w+), with up to \d+ positions\n)+"
+    if (status, got) != (0, b"= \n\n= white\n\n= white\n\n= \n\n= black\n\n") or not re.fullmatch(lines, errors.decode()):
+        return f"who wins: {status}, {got}, {errors}"
+    return None
+
+
+def files_faults():
+    """A file of options, in the place of which those of the command line stand; and one to which lines are added."""
+    with tempfile.TemporaryDirectory() as folder:
+        config, log = Path(folder, "a config"), Path(folder, "a log")
+        config.write_text("# options\n\nsize 4\n --swap = off # for a driver\nresign 0\nplayouts=9")
+        words = ["--config", str(config), f"--log={log}", "--playouts", "7"]
+        _, got, _ = run(WITH, words, b"printsgf\nplay b a1\nplay w swap-pieces\n\nna\0me # x\n")
+        process, _ = start(words)
+        [hexd] = Path(f"/proc/{process.pid}/task/{process.pid}/children").read_text().split()
+        command = Path(f"/proc/{hexd}/cmdline").read_text().split("\0")[2:-1]
+        process.communicate(timeout=LIMIT)
+        if not got.startswith(b"= (;FF[4]GM[11]SZ[4])") or sorted(command) != ["--playouts=7", "--size=4"]:
+            yield f"a file of options: {got}, {command}"
+        want = "> printsgf\n< = (;FF[4]GM[11]SZ[4])\n< \n> play b a1\n< = \n< \n> play w swap-pieces\n< = \n< \n> \n> na\0me # x\n< = hexd\n< \n> name\n< = hexd\n< \n"
+        if log.read_text() != want:
+            yield f"a file of lines: {log.read_text()!r}"
+        for wrong, why in (
+            ("size 12", "--size takes a number from 1 to 11, and '12' is none"),
+            ("depth 3", "there is no option '--depth'"),
+            ("size 3\nsize 4", "--size stands here twice"),
+            ("swap", "--swap takes on or off, and '' is none of these"),
+        ):
+            config.write_text(wrong)
+            status, got, errors = run(WITH, ["--config", str(config)], b"name\n")
+            if (status, got) != (2, b"") or not errors.decode().startswith(f"hexd-gtp: {why} ("):
+                yield f"a file of options, {wrong!r}: {status}, {got}, {errors}"
+    for words, want in (
+        (["--config", "/nowhere"], (2, "hexd-gtp: --config takes a file, and '/nowhere' can't be read (")),
+        (["--config"], (2, "hexd-gtp: --config takes a value, a text of at least one byte, and nothing follows it (")),
+        (["--log", "/nowhere/x"], (4, "hexd-gtp: /nowhere/x: No such file or directory")),
+    ):
+        status, got, errors = run(WITH, words, b"name\n")
+        if (status, got, errors.decode()[: len(want[1])]) != (want[0], b"", want[1]):
+            yield f"{words}: {status}, {got}, {errors}"
+
+
 def seed_fault():
     """Whether a seed that is set counts as one on the command line, from the game as it was."""
     words = ["--size", "5", "--playouts", "300", "--hsearch", "off"]
@@ -211,7 +382,7 @@ def lists_fault():
     menu = run(WITH, SMALL, b"hexgui-analyze_commands\n")[1][2:-2].split(b"\n")
     known = run(WITH, SMALL, b"".join(b"known_command %s\n" % name for name in mine))[1]
     lost = [entry for entry in menu if entry.split(b"/")[2].split()[0] not in mine]
-    lost += [form for form in (b"plist", b"pspairs", b"varc") if not any(entry.startswith(form + b"/") for entry in menu)]
+    lost += [form for form in (b"plist", b"pspairs", b"varc", b"var") if not any(entry.startswith(form + b"/") for entry in menu)]
     for name in (b"help", b"gogui-analyze_commands"):
         same = {b"help": mine, b"gogui-analyze_commands": menu}[name]
         lost += [] if run(WITH, SMALL, name + b"\n")[1][2:-2].split(b"\n") == same else [name]
@@ -233,6 +404,82 @@ def search_fault():
     names = " ".join(vertex for vertex, *_ in rows)
     if (move, visits, cells, record) != (same, shown, names, "(;FF[4]GM[11]SZ[5])") or not re.fullmatch(r"\d+\.\d\d", spent):
         return f"a move that is taken back: {got}, and {want}"
+    return None
+
+
+def look_fault():
+    """Whether a menu shows what the look-ahead found, which chose the cell, and nothing of cells without a walk."""
+    words = ["--size", "7", "--playouts", "100", "--look", "10"]
+    _, got, _ = run(WITH, words + NO_SWAP, b"genmove b\nlook-report\nsearch-visits\nlook-worths\n")
+    move, report, visits, worths = (answer[2:].decode() for answer in got.split(b"\n\n")[:-1])
+    rows = [line.split() for line in report.splitlines()[1:]]
+    walked = [(row[0], row[1]) for row in rows if row[1] != "0"]
+    pairs = dict(zip(worths.split()[::2], worths.split()[1::2]))
+    shown = {row[0]: (re.findall("won|lost", " ".join(row)) or [row[2]])[0] if row[1] != "0" else "-" for row in rows}
+    if visits.split() != [word for row in walked for word in row] or len(walked) < 2 or move not in dict(walked) or pairs != shown:
+        return f"what the look-ahead found: {visits}; {worths}; of {report}"
+    # A cell that is proved says so.
+    _, got, _ = run(WITH, ["--size", "5", "--playouts", "100", "--look", "50"], b"play b d1\nplay w b3\nplay b a4\ngenmove w\nlook-worths\n")
+    if not re.search(rb"\bc2 won\b", got):
+        return f"a move that the look-ahead proves: {got}"
+    return None
+
+
+# The kinds of the values that JSON has of a look-ahead, and of each of its cells.
+LOOK_KINDS = {"move": str, "nodes": int, "cells": list}
+CELL_KINDS = {"cell": str, "walks": int, "worth": (int, type(None)), "proved": (str, type(None)), "line": list}
+
+
+def json_fault():
+    """Whether JSON has what `look-report` says, and no less or more."""
+    for words, lines in ((["--size", "2", "--look", "3"], "play b a2\ngenmove w\n"), (["--size", "7", "--look", "10"], "genmove b\n")):
+        _, got, _ = run(WITH, [*words, "--playouts", "5", *NO_SWAP], f"{lines}look-report\nhexd-look_json\n".encode())
+        move, report, answer = (text[2:] for text in got.decode().split("\n\n")[-4:-1])
+        head, *rows = map(str.split, report.splitlines())
+        cells = [dict(zip(CELL_KINDS, cell_of(*row))) for row in rows]
+        want = {"move": move, "nodes": int(head[1]), "cells": cells}
+        found = json.loads(answer)
+        is_whole = answer == json.dumps(want, separators=(",", ":")) and any(cell["walks"] for cell in found["cells"])
+        if not is_whole or not has_kinds(found, LOOK_KINDS) or not all(has_kinds(cell, CELL_KINDS) for cell in found["cells"]):
+            return f"the look-ahead as JSON: {answer}, of {report}"
+    _, got, _ = run(WITH, SMALL, b"hexd-look_json\nhexd-look_json x\n")
+    return None if got == b"? no look\n\n? syntax error\n\n" else f"no look-ahead as JSON: {got}"
+
+
+def cell_of(cell, walks, worth, *more):
+    """The values of JSON for a row of `look-report`."""
+    proved, _, line = " ".join(more).partition("line ")
+    return cell, int(walks), int(worth) if walks != "0" else None, proved.strip() or None, line.split()
+
+
+def has_kinds(value, kinds):
+    """Whether an object has these keys, in this order, with values of these kinds."""
+    return [*value] == [*kinds] and all(isinstance(value[key], kind) for key, kind in kinds.items())
+
+
+def line_fault():
+    """Whether the main line is what hexd plays against itself, and leaves the game alone."""
+    words = ["--size", "5", "--playouts", "300", "--hsearch", "off", "--seed", "3"]
+    _, got, _ = run(WITH, words, b"play b c3\nhexd-main_line 3\nprintsgf\nmustplay\nhexd-main_line 0\nhexd-main_line x\n")
+    _, want, _ = run(WITHOUT, words, b"play b c3\ngenmove w\ngenmove b\ngenmove w\n")
+    moves = [text[2:].decode() for text in want.split(b"\n\n")[1:4]]
+    said = " ".join(f"{colour} {cell}" for colour, cell in zip("wbw", moves))
+    if got.decode() != f"= \n\n= {said}\n\n= (;FF[4]GM[11]SZ[5];B[c3])\n\n? no search\n\n= \n\n? syntax error\n\n":
+        return f"the main line: {got}, and hexd plays {want}"
+    _, got, _ = run(WITH, ["--size", "2"], b"play b a2\nhexd-main_line\nplay b a1\nhexd-main_line\n")
+    if not re.fullmatch(rb"= \n\n= w \w\w b \w\w\n\n= \n\n\? game over\n\n", got):
+        return f"the main line to the end of a game: {got}"
+    return None
+
+
+def areas_fault():
+    """Whether a menu shows the cells of threats, and of a certificate."""
+    _, got, _ = run(WITH, ["--size", "2", "--playouts", "1"] + NO_SWAP, b"play b a2\ngenmove w\nthreat-cells\nthreat-cells 2\nthreat-cells 3\n")
+    _, cells, _ = run(WITH, ["--size", "2", "--playouts", "1"] + NO_SWAP, b"wincert-cells\ngenmove b\nwincert-cells\nthreat-cells\nthreat-cells 1\n")
+    if got.decode().split("\n\n")[2:5] != ["= a1 b1", "= b1", "? no such threat"]:
+        return f"the cells of threats: {got}"
+    if cells.decode().split("\n\n")[:-1] != ["? no certificate", "= a2", "= a1 b1 a2", "= ", "? no such threat"]:
+        return f"the cells of a certificate: {cells}"
     return None
 
 
@@ -273,6 +520,22 @@ def is_running(process):
         return Path(f"/proc/{process}/stat").read_text().rpartition(")")[2].split()[0] != "Z"
     except OSError:
         return False
+
+
+def killed_fault():
+    """Whether hexd ends at once when the filter is killed, which can do nothing then: one that is stopped meets no end of its
+    input."""
+    process, hexd = start(SMALL)
+    os.kill(hexd, signal.SIGSTOP)
+    process.kill()
+    process.wait(LIMIT)
+    end = time.monotonic() + LIMIT / 10
+    while is_running(hexd) and time.monotonic() < end:
+        time.sleep(0.01)
+    if is_running(hexd):
+        os.kill(hexd, signal.SIGKILL)
+        return "hexd goes on when the filter is killed"
+    return None
 
 
 def signal_faults():
@@ -321,8 +584,11 @@ def stream_faults():
 
 
 def main():
-    single = [rows_fault(), seed_fault(), trace_fault(), lists_fault(), search_fault()]
-    parts = (same_faults(), stream_faults(), ending_faults(), signal_faults(), start_faults(), test_moves.faults(WITH))
+    single = [rows_fault(), time_fault(), solved_fault(), seed_fault(), trace_fault(), lists_fault(), search_fault(), look_fault(), areas_fault(), killed_fault()]
+    single += [json_fault(), line_fault()]
+    parts = [same_faults(), stream_faults(), ending_faults(), signal_faults(), start_faults()]
+    parts += [parameter_faults(), files_faults()]
+    parts += [test_moves.faults(WITH), test_analysis.faults(WITH), test_ponder.faults(WITH), test_match.faults()]
     faults = [fault for fault in single if fault] + [fault for part in parts for fault in part]
     for fault in faults:
         print(f"gtp/test.py: {fault}")

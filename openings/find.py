@@ -24,16 +24,18 @@ import tempfile
 import time
 from pathlib import Path
 
-from openings import ENDING, FOLDER, KINDS, MEASURED, can_unpack, opening_named, openings_of, vertex
+from openings import ENDING, FOLDER, KINDS, MEASURED, can_unpack, opening_named, openings_of, put_whole, vertex
 
 sys.path += [str(FOLDER.parent / "tools"), str(FOLDER.parent / "board")]
 import second_checker
 from hexd import PROGRAM, EngineEnded, check
 
 BUDGET = 10_000_000
+SIZES = range(1, 12)
 INTERRUPTED = 130
-# Between two looks at the memory, in seconds.
-TICK = 0.05
+ENDING_SIGNALS = {signal.SIGINT, signal.SIGTERM}
+# Between two looks at the memory, in seconds; and after how many of them it is asked whether a search is still wanted.
+TICK, TICKS = 0.05, 40
 
 
 def most_memory(process, before):
@@ -46,12 +48,15 @@ def most_memory(process, before):
     return int(found[1]) / 1024 if found else before
 
 
-def ended(process):
-    """Waits for a process: its use of the system, and the most memory that was seen. (wait4 would count this one's.)"""
-    megabytes = most_memory(process, 0)
+def ended(process, is_needless):
+    """Waits for a process, or ends it if it is needless by then: its use of the system, and the most memory that was
+    seen. (wait4 would count this one's.)"""
+    megabytes, ticks = most_memory(process, 0), 0
     while (found := os.wait4(process.pid, os.WNOHANG))[0] == 0:
         time.sleep(TICK)
-        megabytes = most_memory(process, megabytes)
+        megabytes, ticks = most_memory(process, megabytes), ticks + 1
+        if ticks % TICKS == 0 and is_needless():
+            os.kill(process.pid, signal.SIGKILL)
     _, status, usage = found
     process.returncode = os.waitstatus_to_exitcode(status)
     return usage, megabytes
@@ -62,34 +67,30 @@ def solved(opening, budget):
     return answered(f"(;GM[11]SZ[{opening.size}];B[{vertex(*opening)}])", budget)
 
 
-def answered(record, budget):
-    """What `hexd solve` says of a record, and the processor seconds and the most memory, in MB, that it took."""
+def answered(record, budget, is_needless=lambda: False):
+    """What `hexd solve` says of a record, and the processor seconds and the most memory, in MB, that it took. One that
+    was ended says nothing."""
     with tempfile.TemporaryFile() as given, tempfile.TemporaryFile() as said:
         given.write(record.encode())
         given.seek(0)
-        # Ctrl-C waits while it starts: before that is over nobody could end it.
-        signal.pthread_sigmask(signal.SIG_BLOCK, {signal.SIGINT})
+        # Ctrl-C, and the signal TERM, wait while it starts: before that is over nobody could end it.
+        signal.pthread_sigmask(signal.SIG_BLOCK, ENDING_SIGNALS)
         process = subprocess.Popen([PROGRAM, "solve", "--budget", str(budget)], stdin=given, stdout=said)
         try:
-            signal.pthread_sigmask(signal.SIG_UNBLOCK, {signal.SIGINT})
-            usage, megabytes = ended(process)
+            signal.pthread_sigmask(signal.SIG_UNBLOCK, ENDING_SIGNALS)
+            usage, megabytes = ended(process, is_needless)
         except KeyboardInterrupt:
             process.kill()
             raise
         said.seek(0)
-        return said.read(), usage.ru_utime + usage.ru_stime, megabytes
+        return said.read() if process.returncode >= 0 else b"", usage.ru_utime + usage.ru_stime, megabytes
 
 
-def write(path, text):
-    """A file that is there is whole: it gets its name at the end."""
+def packed(text):
+    """The bytes of a file with this text."""
     import lzma
 
-    part = path.with_name(path.name + ".part")
-    try:
-        part.write_bytes(lzma.compress(text, preset=9 | lzma.PRESET_EXTREME))
-        part.replace(path)
-    finally:
-        part.unlink(missing_ok=True)
+    return lzma.compress(text, preset=9 | lzma.PRESET_EXTREME)
 
 
 def find(opening, budget, folder):
@@ -104,7 +105,7 @@ def find(opening, budget, folder):
     if answers != (f"yes {KINDS[winner]}", f"yes {KINDS[winner]}"):
         return f"{winner} wins, by a certificate of which the checkers say {answers}", False
     if opening.has_file():
-        write(folder / f"{opening}{ENDING}", text)
+        put_whole(folder / f"{opening}{ENDING}", packed(text))
     lines = text.count(b"\n")
     with open(folder / MEASURED.name, "a") as measured:
         measured.write(f"{opening}\t{winner}\t{lines}\t{seconds:.2f}\t{megabytes:.0f}\n")
@@ -118,19 +119,23 @@ def words():
     parser.add_argument("--budget", type=int, default=BUDGET, metavar="N")
     parser.add_argument("--again", action="store_true")
     parser.add_argument("--whole", action="store_true")
-    parser.add_argument("--list", type=int, metavar="SIZE")
+    parser.add_argument("--list", type=int, choices=SIZES, metavar="SIZE")
     return parser.parse_args()
 
 
 def named(names, whole):
-    """The openings of these names and sizes, each once; None if one names nothing."""
+    """The openings of these names and sizes, each once; a ValueError says which one names nothing."""
     found = []
     for name in names:
-        if name.isdigit() and 1 <= int(name) <= 11:
+        if re.fullmatch("[1-9]|1[01]", name):
             found += openings_of(int(name), whole)
+        elif opening := opening_named(name):
+            found.append(opening)
         else:
-            found.append(opening_named(name))
-    return None if None in found else list(dict.fromkeys(found))
+            raise ValueError(f"{name!r} is no opening, as 6-a3, and no size, 1 to {SIZES[-1]}")
+    if not found:
+        raise ValueError("no opening is named (--help has the words)")
+    return list(dict.fromkeys(found))
 
 
 def find_all(openings, options):
@@ -147,12 +152,16 @@ def find_all(openings, options):
 
 def main():
     options = words()
-    if options.list:
+    if options.list is not None:
         print(*openings_of(options.list), sep="\n")
         return 0
-    openings = named(options.names, options.whole)
-    if not openings or not can_unpack():
-        print("openings/find.py: no opening is named, or this python3 has no lzma", file=sys.stderr)
+    try:
+        openings = named(options.names, options.whole)
+    except ValueError as why:
+        print(f"openings/find.py: {why}", file=sys.stderr)
+        return 1
+    if not can_unpack():
+        print("openings/find.py: this python3 has no lzma", file=sys.stderr)
         return 1
     try:
         options.out.mkdir(parents=True, exist_ok=True)

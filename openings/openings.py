@@ -6,7 +6,9 @@ opening to another one with the same winner, so of such two the one with the les
 """
 
 import functools
+import os
 import re
+import socket
 from pathlib import Path
 from typing import NamedTuple
 
@@ -16,6 +18,8 @@ MEASURED = FOLDER / "measured.tsv"
 POSITIONS = FOLDER / "positions.tsv"
 LETTERS = "abcdefghijk"
 ENDING = ".cert.xz"
+# The most bytes of a certificate that hexd takes, so that a small file can't fill the memory.
+MOST_BYTES = 67_108_864
 # Who wins claims this kind: Black with White to move, or White with himself to move.
 KINDS = {"black": "full", "white": "semi"}
 
@@ -124,4 +128,18 @@ def text_of(path):
         return path.read_bytes()
     import lzma
 
-    return lzma.decompress(path.read_bytes())
+    with lzma.open(path) as file:
+        text = file.read(MOST_BYTES + 1)
+    if len(text) > MOST_BYTES:
+        raise ValueError(f"it has more than {MOST_BYTES:,} bytes")
+    return text
+
+
+def put_whole(path, data):
+    """A file that is there is whole: it gets its name at the end. Others may write it too, on other machines."""
+    part = path.with_name(f"{path.name}.{socket.gethostname()}.{os.getpid()}.part")
+    try:
+        part.write_bytes(data)
+        part.replace(path)
+    finally:
+        part.unlink(missing_ok=True)

@@ -2,12 +2,15 @@
 """What the checkers have to refuse, and find.py has to find: openings/test.py says nothing if they do.
 
 Of each certificate of sizes 3 to 5, these are refused by `hexd check` and by tools/second_checker.py alike: two lines
-swapped of which one names the other, the other player, the other claim, and the last derivation line cut off; of those
-of size 3 also each other line cut off. openings/check refuses each file of size 3 under the names of the other openings, a
-true certificate with a claim that is not the opening's, a file with a byte changed, and an opening that is missing.
-find.py makes size 3 anew, openings/check accepts what it makes, and a second start finds nothing left to do; a budget
-that is too small leaves an opening open; after Ctrl-C there is no part of a file. The rows that it adds are those that
-README.md's tables are made of. positions.py comes to the same number from any other. middle.py counts what it decides.
+swapped of which one names the other, the other player, the other claim, and the last derivation line cut off; of
+those of size 3 also each other line cut off. With lines `lift` those of sizes 3 and 4 are accepted, and White's
+answer stays. openings/check refuses each file of size 3 under the names of the other openings, a true certificate
+with a claim that is not the opening's, a file with a byte changed, and an opening that is missing. find.py makes size
+3 anew, openings/check accepts what it makes, and a second start finds nothing left to do; a budget that is too small
+leaves an opening open; after Ctrl-C there is no part of a file. The rows that it adds are those that README.md's
+tables are made of. positions.py comes to the same number from any other. middle.py counts what it decides.
+even.tsv has what even.py makes of openings.tsv, and openings that may be near even beyond.
+tests/of_jobs.py has the tests of openings/job and openings/gather.
 
 HEXD names the program; if it isn't set that is bin/hexd.
 """
@@ -20,11 +23,15 @@ import sys
 import tempfile
 from pathlib import Path
 
-from openings import ENDING, FOLDER, MEASURED, listed, text_of
+from even import HEAD as EVEN_HEAD, LARGEST_PROVED, SIZES, black_wins, looked_rows, proved_rows, worth
+from openings import ENDING, FOLDER, MEASURED, listed, opening_named, text_of
 
-sys.path.insert(0, str(FOLDER.parent / "tools"))
+sys.path[:0] = [str(FOLDER.parent / "tools"), str(FOLDER.parent / "examples")]
 import second_checker
+import tests.of_jobs as of_jobs
 from programs import checked
+from tests.support import expect, faults, openings_check
+from winning_move import winning_move
 
 HEAD = 5
 # After b2 and b1 Black is joined with the first row, and with the last one by b3 or a3.
@@ -45,12 +52,6 @@ put
 move b1 7
 semi 9
 """
-faults = []
-
-
-def expect(holds, what):
-    if not holds:
-        faults.append(what)
 
 
 def expect_refused(text, what):
@@ -90,10 +91,47 @@ def expect_refusals():
             expect_refused("\n".join(wrong) + "\n", f"{opening} with {what}")
 
 
-def openings_check(*words, folder=FOLDER):
-    """The status of openings/check, and its lines."""
-    done = subprocess.run([folder / "check", *words], capture_output=True, text=True)
-    return done.returncode, done.stdout.splitlines()
+def lifted(lines):
+    """The lines of a certificate, each of whose entries is taken as a line `lift` in its own scope gives it."""
+    result, numbers = ["hexcert 4", *lines[1:HEAD]], []
+    for line in lines[HEAD:]:
+        words = (str(numbers[int(word)]) if word.isdigit() else word for word in line.split(" "))
+        result.append(" ".join(words))
+        if not line.startswith(("put", "full", "semi")):
+            result.append(f"lift {len(result) - 1 - HEAD}")
+        numbers.append(len(result) - 1 - HEAD)
+    return result
+
+
+def expect_lifts():
+    """With lines `lift` a certificate is accepted as without, and its winning move is the same."""
+    for opening, entry in listed().items():
+        if opening.size > 4:
+            continue
+        text = "\n".join([*lifted(text_of(FOLDER / f"{opening}{ENDING}").decode().splitlines()), ""])
+        said = checked(text.encode()), second_checker.answer(text.encode()), winning_move(text) or "-"
+        want = (f"yes {entry.claim}", 0), f"yes {entry.claim}", entry.answer
+        expect(said == want, f"{opening} with lines lift: {said}")
+
+
+def expect_even():
+    """What is proved of even.tsv is what even.py makes; the rest has an opening that each colour won, in each row another one."""
+    head, *rows = [tuple(line.split("\t")) for line in (FOLDER / "even.tsv").read_text().splitlines()]
+    proved = [tuple(map(str, row)) for size in SIZES if size <= LARGEST_PROVED for row in proved_rows(size)]
+    looked = rows[len(proved) :]
+    expect(head == EVEN_HEAD and rows[: len(proved)] == proved, f"even.tsv has of what is proved {rows[: len(proved)]}")
+    expect({int(row[0]) for row in looked} == {size for size in SIZES if size > LARGEST_PROVED}, f"even.tsv has beyond {looked}")
+    names = [opening_named(f"{size}-{moves}") for size, moves, *_ in rows]
+    expect(None not in names and len(set(names)) == len(rows), f"even.tsv has the openings {names}")
+    for size, moves, winner, lines, value, black, games in looked:
+        is_even = 0 < int(black) < int(games) and abs(int(value) - 500) < 100
+        expect(winner == lines == "-" and is_even, f"even.tsv: {size}-{moves}, {value}, {black} of {games}")
+    # On small boards connections decide, and so what a game comes to is proved.
+    for name in ("4-d1", "4-a1"):
+        opening = opening_named(name)
+        wins = listed()[opening].winner == "black"
+        expect((worth(opening), black_wins(opening, 20)) == (1000 * (not wins), wins), f"a game from {name}: {worth(opening)}")
+    expect(looked_rows(3) == [], "a row for an opening that is decided")
 
 
 def expect_other_names(folder):
@@ -174,6 +212,21 @@ def expect_found(folder):
     expect(seen == (1, "", 1), f"find.py without hexd: {seen}, {done.stderr}")
 
 
+def expect_names():
+    """Which word names no opening is said, in a line."""
+    for words, status, why in (
+        (["12"], 1, "'12' is no opening, as 6-a3, and no size, 1 to 11"),
+        (["3-a1", "5-z9"], 1, "'5-z9' is no opening, as 6-a3, and no size, 1 to 11"),
+        (["5-a6"], 1, "'5-a6' is no opening, as 6-a3, and no size, 1 to 11"),
+        ([], 1, "no opening is named (--help has the words)"),
+        (["--list", "0"], 2, "argument --list: invalid choice: 0"),
+        (["--list", "12"], 2, "argument --list: invalid choice: 12"),
+    ):
+        done = subprocess.run([FOLDER / "find.py", *words], capture_output=True, text=True)
+        last = done.stderr.splitlines()[-1] if done.stderr else ""
+        expect((done.returncode, done.stdout, why in last) == (status, "", True), f"find.py {words}: {done}")
+
+
 def expect_positions(folder):
     """The least budget that is enough: from nothing, from a right number and from wrong ones, an odd one among them."""
     out = folder / "positions.tsv"
@@ -219,11 +272,15 @@ def expect_interrupted_check():
 
 def main():
     expect_refusals()
+    expect_lifts()
     expect_other_statuses()
     expect_interrupted_check()
     expect_middle()
+    expect_names()
+    expect_even()
+    of_jobs.expect_orders()
     trials = expect_other_names, expect_other_claim, expect_whole_files, expect_found, expect_positions, expect_interrupted
-    for trial in trials:
+    for trial in (*trials, *of_jobs.TRIALS):
         with tempfile.TemporaryDirectory() as folder:
             trial(Path(folder))
     for fault in faults:

@@ -86,7 +86,7 @@ def zsh_word(row):
         return f"'1:{says}:_files'"
     message, action = {
         "": ("", ""), "N": (row.range, ""), "WORD": (row.range, f"({' '.join(row.choices())})"),
-        "FILE": ("file", "_files"), "ADDRESS": ("address", "_hosts"),
+        "LIST": (row.range, ""), "FILE": ("file", "_files"), "ADDRESS": ("address", "_hosts"),
     }[row.value]
     return f"'{row.name}=[{says}]:{message}:{action}'" if row.value else f"'{row.name}[{says}]'"
 
@@ -106,7 +106,7 @@ def fish_line(name, row):
     says = (says[0].upper() + says[1:]).replace("'", "\\'")
     if row.is_mode():
         return f"complete -c {name} -n \"not __fish_seen_subcommand_from $modes\" -a {row.name} -d '{says}'"
-    takes = {"": "", "N": " -x", "ADDRESS": " -x", "FILE": " -r -F"}.get(row.value, f" -x -a '{' '.join(row.choices())}'")
+    takes = {"": "", "N": " -x", "LIST": " -x", "ADDRESS": " -x", "FILE": " -r -F"}.get(row.value, f" -x -a '{' '.join(row.choices())}'")
     about = f"{says}: {row.range}" if row.value else says
     return f"complete -c {name} -l {row.name[2:]}{takes} -d '{about}'"
 

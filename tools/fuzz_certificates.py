@@ -3,13 +3,16 @@
 
     tools/fuzz_certificates.py [COUNT [SEED]]
 
-Both are handed the same bytes: each file of examples/certificates, each prefix of V1, the two long texts that
+Both are handed the same bytes: each file of examples/certificates, each prefix of V1, the long texts that
 docs/use/CERTIFICATES.md describes, and COUNT changed certificates (3,000 if it isn't said), which SEED (1) determines. A
 changed one is a file of examples/certificates, or a short certificate of openings/, after one to three changes: of a
-number, a vertex, a name, the head, how many numbers an `or` has, the order of lines, or of any byte.
+number, a vertex, a name, the head, how many numbers an `or` has, the order of lines, or of any byte. Half of them grew
+before that, by one to four lines `lift`, whose entries lines below take in place of what is lifted, or only grew.
 
 It prints how often each answer came, with no line numbers; a text on which the two differ is kept in a file, which is
-named. It ends with 1 if there is one, or if some number of refusal never came among 1,000 changed ones or more.
+named. It ends with 1 if there is one. With a COUNT of 1,000 or more it also does if some number of refusal never came,
+or one that a line `lift` can have not at such a line, or if no text with such a line was accepted. The long texts of
+version 4 are there only then.
 
 HEXD names the program; if it isn't set that is bin/hexd.
 """
@@ -26,6 +29,10 @@ from programs import ROOT, run
 SHORT = 1_000
 MANY = 1_000
 REASONS = range(1, 14)
+# What can be said of a line `lift`: by which number it is refused, or that the text is accepted.
+OF_LIFTS = 1, 12, "yes"
+# The lines before the derivation.
+HEAD = 5
 MOST_WAYS = 127
 NAMES = [["and", "key", "or", "cases"], ["put", "done"], ["full", "semi"], ["black", "white"]]
 ODD_BYTES = b"\x00\t\n\r 01a\xff"
@@ -46,12 +53,14 @@ def shelved():
     return [text for text in texts if text.count(b"\n") <= SHORT]
 
 
-def told_texts():
+def told_texts(is_short):
     """What docs/use/CERTIFICATES.md describes without a file: the prefixes of V1, and texts of many lines."""
     v1 = (ROOT / "examples" / "certificates" / "v1.cert").read_bytes()
-    head = b"".join(v1.splitlines(keepends=True)[:5])
-    fronts = [v1[:length] for length in range(len(v1))]
-    return fronts + [head + b"adj a1 edge1\n" * many + b"full 0\n" for many in (200_000, 200_001)]
+    yield from (v1[:length] for length in range(len(v1)))
+    head = b"".join(v1.splitlines(keepends=True)[1:HEAD])
+    for version, most in second_checker.MOST_LINES.items():
+        for many in (most, most + 1) if version == "1" or version == "4" and not is_short else ():
+            yield b"hexcert %s\n" % version.encode() + head + b"adj a1 edge1\n" * many + b"full 0\n"
 
 
 def cell_order(word):
@@ -112,7 +121,7 @@ def change(draw, text):
         case "p" if len(lines) > 2:
             lines[2] = draw.choice(["player white", "player black"])
         case "v":
-            lines[0] = "hexcert " + draw.choice("123333334")
+            lines[0] = "hexcert " + draw.choice("1233333344")
         case "n" if ways:
             at = draw.choice(ways)
             lines[at] = change_ways(draw, lines[at], lines)
@@ -123,19 +132,61 @@ def change(draw, text):
         case "i":
             lines.insert(at, lines[other])
         case "m":
-            lines.insert(at, draw.choice(["put", "done", "adj edge1 edge2", "cases 0 1", "or 0 1 2", ""]))
+            lines.insert(at, draw.choice(["put", "done", "adj edge1 edge2", "cases 0 1", "or 0 1 2", "lift 0", ""]))
         case _:
             place = draw.randrange(len(text) + 1)
             return text[:place] + chr(draw.choice(ODD_BYTES)) * draw.randrange(2) + text[place + 1 :]
     return "\n".join(lines)
 
 
+def scopes_of(lines):
+    """The scope of each derivation line."""
+    scopes, scope = [], frozenset()
+    for line in lines:
+        name, *words = line.split(" ")
+        scope = frozenset(words) if name == "put" else scope
+        scopes.append(scope)
+    return scopes
+
+
+def renumbered(draw, line, at, lifted):
+    """A line that names the same lines after one more stands at this number; mostly the new one for what that lifts."""
+
+    def moved(word):
+        if int(word) == lifted and draw.random() < 0.7:
+            return str(at)
+        return str(int(word) + (int(word) >= at))
+
+    return " ".join(moved(word) if word.isdigit() else word for word in line.split(" "))
+
+
+def grow(draw, text):
+    """A certificate with a line `lift` more, mostly of an entry whose scope is part of the line's."""
+    head, lines = text.split("\n")[1:HEAD], text.split("\n")[HEAD:-1]
+    at = draw.randrange(1, len(lines))
+    scopes = scopes_of(lines[:at])
+    fitting = [k for k in range(at) if scopes[k] <= scopes[-1] and not lines[k].startswith("put")]
+    lifted = draw.choice(fitting) if fitting and draw.random() < 0.9 else draw.randrange(at)
+    below = [renumbered(draw, line, at, lifted) for line in lines[at:]]
+    return "\n".join(["hexcert 4", *head, *lines[:at], f"lift {lifted}", *below, ""])
+
+
+def grown(draw, text):
+    """A certificate with one to four lines `lift`; one that has too few lines for it stays as it is."""
+    for _ in range(draw.randint(1, 4)):
+        is_whole = text.startswith("hexcert ") and text.count("\n") > HEAD + 1
+        text = grow(draw, text) if is_whole else text
+    return text
+
+
 def changed_texts(draw, count):
     """So many changed certificates."""
     known = examples() + shelved()
     for _ in range(count):
-        text = draw.choice(known).decode("latin-1")
-        for _ in range(draw.randint(1, 3)):
+        text, is_grown = draw.choice(known).decode("latin-1"), draw.random() < 0.5
+        if is_grown:
+            text = grown(draw, text)
+        for _ in range(0 if is_grown and draw.random() < 0.5 else draw.randint(1, 3)):
             text = change(draw, text)
         yield text.encode("latin-1")
 
@@ -154,14 +205,23 @@ def sort_of(answer):
     return re.sub(r"(?<=^no )\d+|(?<=line )\d+", "LINE", answer)
 
 
+def of_lift(text, answer):
+    """What an answer says of a line `lift` of the text; None if it says nothing of one."""
+    if refused := re.fullmatch(r"no (\d+) (\d+)", answer):
+        at = HEAD + int(refused[1])
+        return int(refused[2]) if text.split(b"\n", at + 1)[at].startswith(b"lift ") else None
+    return "yes" if answer.startswith("yes ") and b"\nlift " in text else None
+
+
 def main():
     count, seed = (int(word) for word in (sys.argv[1:] + ["3000", "1"][len(sys.argv) - 1 :]))
-    answers, of_changed, differing = Counter(), Counter(), 0
-    told = examples() + told_texts()
+    answers, of_changed, of_lifts, differing = Counter(), Counter(), Counter(), 0
+    told = [*examples(), *told_texts(count < MANY)]
     for number, text in enumerate([*told, *changed_texts(random.Random(seed), count)]):
         mine, hexds = second_checker.answer(text), answer_of_hexd(text)
         answers[sort_of(mine)] += 1
         of_changed[sort_of(mine)] += number >= len(told)
+        of_lifts[of_lift(text, mine)] += number >= len(told)
         if mine != hexds:
             differing += 1
             with tempfile.NamedTemporaryFile(prefix="differ-", suffix=".cert", delete=False) as file:
@@ -169,11 +229,13 @@ def main():
             print(f"the second checker says {mine!r}, hexd {hexds!r}: {file.name}")
     for said, often in sorted(answers.items()):
         print(f"{often:7,} {said}")
-    missing = [why for why in REASONS if count >= MANY and not of_changed[f"no LINE {why}"]]
-    if missing:
-        print(f"no changed certificate was refused by the numbers {missing}")
+    print(f"of lines `lift`: {', '.join(f'{of_lifts[said]:,} {said}' for said in OF_LIFTS)}")
+    missing = [why for why in REASONS if not of_changed[f"no LINE {why}"]]
+    missing += [f"{said} of a lift" for said in OF_LIFTS if not of_lifts[said]]
+    if missing and count >= MANY:
+        print(f"never came of a changed certificate: {missing}")
     print(f"{answers.total():,} texts (seed {seed}), {differing} on which the two differ")
-    return 1 if differing or missing else 0
+    return 1 if differing or missing and count >= MANY else 0
 
 
 if __name__ == "__main__":

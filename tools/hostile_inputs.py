@@ -1,5 +1,5 @@
 #!/usr/bin/env python3
-"""Makes the inputs that cost an audit or a checker most: SECURITY.md has the figures.
+"""Makes the inputs that cost an audit, a checker or the solver most: SECURITY.md has the figures.
 
     tools/hostile_inputs.py KIND OUT [BYTES]
 
@@ -10,8 +10,12 @@ Fills OUT with at most so many bytes, 67108864 if none are given. The kinds:
     deep    one tree of at most a million playouts, each of which ends 110 levels below the root
     short   texts of 344 bytes that claim the largest tree
     numbers a certificate whose lines have the most numbers
+    ors     an accepted one of version 3, of as many lines as there may be, that have the most numbers
+    latest  an accepted one of version 4, of as many lines as there may be
+    nested  a record whose trees nest as deep as they may
+    named   a record of nodes with a property each
 
-The texts of `short` are closed trees, and all are read. In the others all links and records are
+The texts of `short` are closed trees, and all are read. In the other traces all links and records are
 right, and all counts are 0: an audit reads the whole text, makes each playout again and finds the
 counts wrong at the end (flaw 4). Eight texts of `deep` fit into an input.
 """
@@ -23,6 +27,8 @@ LIMIT = 67_108_864
 FRONT_BYTES = 128
 RECORDS_AT = 2
 MOST_PLAYOUTS = 1_000_000
+# A line of a certificate has at most so many numbers, and trees of a record nest so deep below the outermost one.
+MOST_NUMBERS, DEPTH = 127, 63
 
 # Black's stones on size 11 that join his edges, so that he wins each playout.
 JOINED = sum(1 << 11 * row for row in range(11))
@@ -107,12 +113,34 @@ def numbers(limit):
     return head + line * ((limit - len(head) - len(claim)) // len(line)) + claim
 
 
+def accepted(version, most_lines, limit):
+    """A certificate of so many lines at most, which are as long as they may be, or as the bytes allow: V1's, and then lines `or`
+    of its two ways."""
+    head = b"hexcert %d\nsize 2\nplayer black\nblack\nwhite\n" % version
+    lines = b"adj a2 a1\nadj a1 edge1\nadj a2 b1\nadj b1 edge1\nkey 0 1\nkey 2 3\nor 4 5\nadj a2 edge2\nkey 6 7\n"
+    claim, left = b"semi 8\n", most_lines - lines.count(b"\n")
+    room = limit - len(head) - len(lines) - len(claim)
+    numbers = max(2, min(MOST_NUMBERS, (room // left - 3) // 2))
+    line = b"or" + (b" 4 5" * numbers)[: 2 * numbers] + b"\n"
+    return head + lines + line * min(left, room // len(line)) + claim
+
+
+def record(piece, limit):
+    """A game that is over, with as many of these pieces behind its end as fit."""
+    head, end = b"(;GM[11]SZ[1];B[a1]", b")"
+    return head + piece * ((limit - len(head) - len(end)) // len(piece)) + end
+
+
 MAKERS = {
     "broad": lambda limit: whole(11, JOINED, limit),
     "small": lambda limit: whole(3, 0, limit),
     "deep": deep,
     "short": short,
     "numbers": numbers,
+    "ors": lambda limit: accepted(3, 200_000, limit),
+    "latest": lambda limit: accepted(4, 1_000_000, limit),
+    "nested": lambda limit: record(b"(;" * DEPTH + b")" * DEPTH, limit),
+    "named": lambda limit: record(b";A[]", limit),
 }
 
 

@@ -32,6 +32,9 @@ def clauses_of(row):
             yield clause(f"{label}_{side}", f'{constant}.{at}.now ≡ codes "{label}-{side}"')
         ends = [f"{constant}.{at} ≡ {end}" for at, end in enumerate(low_and_high, 3)]
         yield clause(label, f'{constant}.2.now ≡ codes "{default}"', *ends)
+    elif row.value == "LIST":
+        most = re.search(r"\d+", row.range)[0]
+        yield clause(label, f'{constant}.0.now ≡ codes "{name}"', f"{constant}.1 ≡ {most}")
     elif row.value == "FILE":
         yield clause(label, f'{constant}.now ≡ codes "{name}"')
     else:

@@ -4,6 +4,7 @@ script of tools/ as a module.
 HEXD in the environment names the program; if it isn't set that is bin/hexd, which builds it if it isn't fresh.
 """
 
+import gzip
 import os
 import subprocess
 from importlib.machinery import SourceFileLoader
@@ -20,6 +21,22 @@ def tool(name):
     module = module_from_spec(spec_from_loader(name, loader))
     loader.exec_module(module)
     return module
+
+
+def released(commit):
+    """The program hexd that release/ has in this commit, as a file of the user's cache."""
+    # What a launcher gives a program: so programs with and without one start alike (tools/program.bash).
+    os.environ.setdefault("GLIBC_TUNABLES", "glibc.malloc.hugetlb=1")
+    cache = Path(os.environ.get("XDG_CACHE_HOME") or Path.home() / ".cache")
+    path = cache / "hexd" / commit / "hexd"
+    if not path.exists():
+        packed = subprocess.run(["git", "show", f"{commit}:release/hexd.gz"], cwd=ROOT, capture_output=True, check=True).stdout
+        path.parent.mkdir(parents=True, exist_ok=True)
+        part = path.with_suffix(f".{os.getpid()}")
+        part.write_bytes(gzip.decompress(packed))
+        part.chmod(0o755)
+        part.replace(path)
+    return path
 
 
 def run(*words, given=b""):
@@ -43,7 +60,9 @@ class Hexd:
 
     def __init__(self, words, **how):
         command = [HEXD, "htp", *words]
-        self.process = subprocess.Popen(command, stdin=subprocess.PIPE, stdout=subprocess.PIPE, **how)
+        # A file of --trace that may grow no more is hexd's to tell, and no signal that ends it: Python ignores that one.
+        pipes = {"stdin": subprocess.PIPE, "stdout": subprocess.PIPE}
+        self.process = subprocess.Popen(command, **pipes, restore_signals=False, **how)
 
     def send(self, piece):
         """Hands over a part of the input."""

@@ -4,6 +4,7 @@
 # What ends before the program begins has this status, as in bin/start.
 NOT_STARTED=125
 NEEDED='Python 3.10 or later'
+. "$share/tools/streams.bash" || exit "$NOT_STARTED"
 
 # become_python FILE WORD..: becomes this program with these words. It finds hexd by HEXD: what the environment says, else the
 # one of the repository, which is built or taken from release/ now, else the one that is installed.

@@ -142,6 +142,7 @@ ROWS = {
         "sim --size 1 --workers 3 --playouts 10 --steps 100", "", "best a1\nplayouts 10\na1 10 10\n"
     ),
     "match-records": Match("--size 1 --games 2 --records on --playouts-a 4 --playouts-b 4", TWO_GAMES),
+    "match-openings": Match("--size 1 --games 2 --records on --opening a1,A1", TWO_GAMES),
     "main-trace": Main(
         "bench --size 1 --playouts 1 --trace t", "size 1\nstones 0\nplayouts 1\nrecords 1\nbest a1 1\n"
     ),

@@ -10,11 +10,12 @@ from collections import namedtuple
 from functools import reduce
 from operator import and_, or_
 
-MOST_LINES = 200_000
+MOST_LINES = {"1": 200_000, "2": 200_000, "3": 200_000, "4": 1_000_000}
 NUMBER, CELL, END = " (0|[1-9][0-9]{0,5})", " [a-k][0-9]+", " ([a-k][0-9]+|edge[12])"
 FORMS = {"1": f"adj{END}{END}|(and|key|or){NUMBER}{NUMBER}|or{NUMBER}{NUMBER}{NUMBER}|(full|semi){NUMBER}"}
 FORMS["2"] = f"{FORMS['1']}|put({CELL})*|done|move{CELL}{NUMBER}|cases({NUMBER}){{2,127}}"
 FORMS["3"] = f"{FORMS['2']}|or({NUMBER}){{2,127}}"
+FORMS["4"] = f"{FORMS['3']}|lift{NUMBER}"
 # What a line gives; the pair has its elements, each of them the set of its places.
 Entry = namedtuple("Entry", "kind pair carrier scope")
 
@@ -35,7 +36,7 @@ def read(data):
         if not found:
             raise Refusal(f"not a certificate at line {at}")
         return found
-    version, size = match(1, "hexcert (1|2|3)")[1], int(match(2, "size ([1-9]|10|11)")[1])
+    version, size = match(1, "hexcert (1|2|3|4)")[1], int(match(2, "size ([1-9]|10|11)")[1])
     player = match(3, "player (black|white)")[1]
     named = {"abcdefghijk"[k % size] + str(k // size + 1): k for k in range(size**2)}
     named |= {"edge1": size**2, "edge2": size**2 + 1}
@@ -50,7 +51,7 @@ def read(data):
     white = set_of(line(5, f"white({CELL})*", black)[1])
     lines = []
     while not lines or lines[-1][0] not in ("full", "semi"):
-        if len(lines) > MOST_LINES:
+        if len(lines) > MOST_LINES[version]:
             raise Refusal("too many lines")
         lines.append(line(6 + len(lines), FORMS[version]))
     if texts[5 + len(lines):] != [""]:
@@ -96,10 +97,10 @@ class Checker:
         """The rows of the table, each with its number and whether it applies to a line that takes entries of this kind
         and scope. A row is looked at if none before it applies."""
         board, taken, pairs = self.board(self.scope), set_of(places), [e and e.pair for e in entries]
-        yield 1, any(e is None or e.kind != kind for e in entries)
+        yield 1, any(e is None or e.kind != kind and name != "lift" for e in entries)
         yield 1, name in ("and", "key", "or") and any(len(pair) == 1 for pair in pairs)
         yield 11, name in ("put", "move") and taken & (self.other | (self.own if name == "put" else board.own))
-        yield 12, any(e.scope != scope for e in entries)
+        yield 12, any(e.scope & ~scope if name == "lift" else e.scope != scope for e in entries)
         if name == "adj":
             yield 2, taken & self.other
             x, y = map(board.element, places)
@@ -122,6 +123,9 @@ class Checker:
             self.scope = set_of(places)
             return None
         board, pairs = self.board(self.scope), [e.pair for e in entries]
+        if name == "lift":
+            holders = frozenset(board.element((x & -x).bit_length() - 1) for x in pairs[0])
+            return Entry(entries[0].kind, holders, entries[0].carrier & ~self.scope, self.scope)
         cell = min(pairs[0] & pairs[1]) if name == "key" else set_of(places) if name == "move" else 0
         pair = frozenset(map(board.element, places)) if name == "adj" else pairs[0] if name == "or" else board.edges
         pair = pairs[0] ^ pairs[1] if name in ("and", "key") else pair

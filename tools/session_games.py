@@ -9,7 +9,8 @@ import random
 import sys
 from pathlib import Path
 
-from programs import ROOT
+from programs import HEXD, ROOT, released
+from studies import RELEASE
 
 sys.path.append(str(ROOT / "board"))
 from hexd import Engine, EngineEnded
@@ -25,8 +26,9 @@ class Side:
     """A session of one side, with the processor time of its moves and their number."""
 
     def __init__(self, options, size, seed):
-        words = [f"--{name}={value}" for name, value in options.items()]
-        self.session = Engine.start(f"--size={size}", f"--seed={seed}", *words)
+        program = released(options[RELEASE]) if RELEASE in options else HEXD
+        words = [f"--{name}={value}" for name, value in options.items() if name != RELEASE]
+        self.session = Engine.start(f"--size={size}", f"--seed={seed}", *words, program=program)
         self.seconds, self.moves = 0.0, 0
 
     def used(self):

@@ -8,6 +8,7 @@ A study is a text. A line is a name and its value, `#` begins a comment:
     seed 0                               the number of the first block, 0 if it isn't said
     setting s180 playouts=1000           a setting: its name, and what of hexmatch's options for a side it says otherwise
     setting s0 playouts=1000 weight=0
+    setting old release=9eef6444         of games by hexd: the program that release/ has in this commit, not that of the tree
     match s180 s0                        which settings meet; without such lines each meets each
     by hexd                              two sessions of hexd play, with connections (tools/session_games.py), not hexmatch
     stones 2                             with how many stones on the board such a game begins, 0 if it isn't said
@@ -33,6 +34,8 @@ NUMBERS = {
     "size": (1, 11), "games": (2, 1_000), "blocks": (1, MOST_BLOCKS), "seed": (0, MOST_BLOCKS - 1), "stones": (0, 2),
 }
 PROGRAMS = ["hexmatch", "hexd"]
+# What names the program of a setting, and the start of a commit's name.
+RELEASE, COMMIT = "release", re.compile(r"[0-9a-f]{7,40}")
 # A line of a game, and the last line, as hexmatch writes them.
 GAME = re.compile(r"(\d+) (a|b|none) (black|white|none) (\d+)")
 LAST = re.compile(r"a (\d+) b (\d+)")
@@ -93,9 +96,12 @@ def read_setting(words):
     options = {}
     for word in words:
         name, _, value = word.partition("=")
-        if name not in RANGES or name in options:
+        if name == RELEASE and COMMIT.fullmatch(value) and name not in options:
+            options[name] = value
+        elif name in RANGES and name not in options:
+            options[name] = number(name, value, RANGES)
+        else:
             raise Fault(f"{word!r} is no option of a side, or one that was said")
-        options[name] = number(name, value, RANGES)
     return options
 
 
@@ -124,6 +130,8 @@ def read(path):
             raise Fault(f"{path}, line {at}: {fault}") from None
     if study.stones and study.by != "hexd" or study.stones > study.size**2 // 2:
         raise Fault(f"{path}: so many stones stand on no board, or games are not played by hexd")
+    if study.by != "hexd" and any(RELEASE in options for options in study.settings.values()):
+        raise Fault(f"{path}: releases are named where hexd plays")
     if len(study.settings) < 2 or study.games % 2 or study.seed + study.count() > MOST_BLOCKS:
         raise Fault(f"{path}: a study has two settings or more, an even number of games, and at most {MOST_BLOCKS:,} blocks")
     return study

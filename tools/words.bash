@@ -23,7 +23,7 @@ asks() {
 # answer_words WORD..: answers --help and --version, and a program without words on a terminal, and ends then.
 answer_words() {
     local help=$share/man/$name.help
-    if asks --help "$@" || asks -h "$@"; then
+    if asks --help "$@" || asks -h "$@" || [ "$*" = help ]; then
         cat "$help" && echo && echo "More: $(page)"
         exit
     elif asks --version "$@"; then
@@ -38,6 +38,38 @@ answer_words() {
             hexmatch) echo "$name: plays ten games with its defaults; --help has its words" >&2 ;;
         esac
     fi
+}
+
+# with_config WORD..: fills words with these and, for a --config FILE among them, with the options of the file that they don't
+# say: a line each, as `strength quick`, with or without hyphens and `=`. What can't be read is left among them, for find_fault.
+with_config() {
+    local word file='' line option said=' ' of_file=()
+    words=() fault=''
+    while [ $# != 0 ] && [ "$1" != -- ]; do
+        case $1 in
+            --config=?*) file=${1#*=} ;;
+            --config)
+                [ -n "$2" ] && [[ $2 != -* ]] && file=$2 && shift || words+=("$1") ;;
+            *) words+=("$1") ;;
+        esac
+        shift
+    done
+    words+=("$@")
+    [ -n "$file" ] || return
+    for word in "${words[@]}"; do
+        said+="${word%%=*} "
+    done
+    if ! { [ -f "$file" ] && [ -r "$file" ]; }; then
+        fault="--config takes a file, and '$file' can't be read"
+        return
+    fi
+    while read -r line || [ -n "$line" ]; do
+        line=${line%%#*}
+        [[ $line =~ ^[[:space:]]*(--)?([^[:space:]=]+)[[:space:]=]*(.*[^[:space:]])?[[:space:]]*$ ]] || continue
+        option=--${BASH_REMATCH[2]}
+        [[ $said == *" $option "* ]] || of_file+=("$option=${BASH_REMATCH[3]}")
+    done <"$file"
+    words=("${of_file[@]}" "${words[@]}")
 }
 
 # read_options: of the program, from tools/options.txt, the range of each option by its name, empty for one without a value;
@@ -87,7 +119,7 @@ fault_of_value() {
 
 # find_fault WORD..: fills fault with what is wrong with the first word that the program can't take, or leaves it empty.
 find_fault() {
-    local LC_ALL=C word option value mode='' positional=''
+    local LC_ALL=C word option value mode='' positional='' all=("$@")
     local -A seen=()
     fault=''
     [ -f "$share/tools/options.txt" ] || return
@@ -123,6 +155,7 @@ find_fault() {
         [ "$option" = "${option#--}" ] || seen[$option]=yes
     done
     [ -n "$fault" ] || [ "${#modes[@]}" = 0 ] || [ -n "$mode" ] || fault="one word names what to do: $(listed)"
+    [ -n "$fault" ] || [ "$name" != hexmatch ] || fault_of_openings "${all[@]}"
 }
 
 listed() { local all; printf -v all '%s, ' "${modes[@]}"; echo "${all%, }"; }
@@ -147,14 +180,12 @@ tell_fault() {
 # begin PROGRAM WORD..: becomes this program with these words. If a word is at fault the program says `hexd: usage` first, and
 # then a line says which one it is.
 begin() {
-    local program=$1 ended word words=()
+    local program=$1 ended
     shift
-    if [ "$name" = hexmatch ] && asks --progress "$@"; then
-        for word; do
-            [ "$word" = --progress ] || words+=("$word")
-        done
+    if [ "$name" = hexmatch ]; then
+        . "$share/tools/progress.bash" && take_words "$@"
         find_fault "${words[@]}"
-        [ -n "$fault" ] || { . "$share/tools/progress.bash" && follow_match "$program" "${words[@]}"; }
+        [ -n "$fault" ] || [ -z "$follows" ] || follow_match "$program" "${words[@]}"
         set -- "${words[@]}"
     fi
     find_fault "$@"

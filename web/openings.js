@@ -32,21 +32,30 @@ async function provedBy(certificate, size, vertex) {
   return await checked(certificate) === CLAIMS[name] ? name : null;
 }
 
-/** Who is proved to win after Black's first stone on this cell: 'black', 'white' or null. */
-const winnerOf = (() => {
+/** Who wins after Black's first stone on this cell, and the certificate of that: {winner, certificate}; null if none says so. */
+const openingOf = (() => {
   const found = new Map();
   return (size, vertex) => {
     const name = `${size}-${vertex}`;
-    if (!found.has(name)) found.set(name, findWinner(size, vertex));
+    if (!found.has(name)) found.set(name, findOpening(size, vertex));
     return found.get(name);
   };
 })();
 
-async function findWinner(size, vertex) {
+async function findOpening(size, vertex) {
   const certificates = await certificatesOfPage(), opposite = certificates[`${size}-${turnedCell(vertex, size)}`];
-  return await provedBy(certificates[`${size}-${vertex}`], size, vertex) ??
-    provedBy(opposite && turned(opposite, size), size, vertex);
+  for (const certificate of [certificates[`${size}-${vertex}`], opposite && turned(opposite, size)]) {
+    const winner = await provedBy(certificate, size, vertex);
+    if (winner) return {winner, certificate};
+  }
+  return null;
 }
+
+/** Who is proved to win after Black's first stone on this cell: 'black', 'white' or null. */
+const winnerOf = async (size, vertex) => (await openingOf(size, vertex))?.winner ?? null;
+
+/** The certificate of that; null if there is none. */
+const certificateOf = async (size, vertex) => (await openingOf(size, vertex))?.certificate ?? null;
 
 /** The same of all cells of a size of which it is known, by vertex. */
 async function winnersOf(size) {

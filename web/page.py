@@ -18,6 +18,7 @@ import lzma
 import re
 import sys
 import tempfile
+from collections import Counter
 from pathlib import Path
 
 import build
@@ -26,8 +27,8 @@ HERE = Path(__file__).resolve().parent
 ROOT = HERE.parent
 BOARD = ROOT / "board" / "page"
 OPENINGS = ROOT / "openings"
-# How strongly hexd plays, for the board too.
-SETTINGS = ROOT / "board" / "settings.json"
+# How strongly hexd plays, and what is guessed of openings, for the board too.
+SETTINGS, GUESSED = ROOT / "board" / "settings.json", ROOT / "board" / "guessed.json"
 # What stands in the place of the board's session.js.
 SESSION = [HERE / name for name in ("run.js", "openings.js", "session.js")]
 # The certificates of these sizes are small.
@@ -54,7 +55,8 @@ def hash_of(text):
 
 def settings(started):
     """What the page's scripts read of the settings; `started` are options that stand before the table's default."""
-    return json.dumps({"table": json.loads(SETTINGS.read_text()), "started": started})
+    table, guessed = (json.loads(file.read_text()) for file in (SETTINGS, GUESSED))
+    return json.dumps({"table": table, "guessed": guessed, "started": started})
 
 
 def certificates():
@@ -71,7 +73,7 @@ def sources():
     """The sum of the names and the contents of all that the page is made of."""
     sum_of_all = hashlib.sha256()
     own = [*SESSION, HERE / "worker.js", HERE / "page.py"]
-    for file in sorted({*build.sources(), *own, *BOARD.iterdir(), SETTINGS, *certificates()}):
+    for file in sorted({*build.sources(), *own, *BOARD.iterdir(), SETTINGS, GUESSED, *certificates()}):
         sum_of_all.update(f"{file.relative_to(ROOT)} {hashlib.sha256(file.read_bytes()).hexdigest()}\n".encode())
     return sum_of_all.hexdigest()
 
@@ -104,6 +106,12 @@ def put(text, old, new):
     return text.replace(old, new)
 
 
+def twice(text):
+    """The ids that two elements of a page have: of these the page would find the first one alone."""
+    elements = re.sub(r"(<script[^>]*>).*?</script>", r"\1", text, flags=re.DOTALL)
+    return [name for name, count in Counter(re.findall(r'<[^>]* id="([^"]*)"', elements)).items() if count > 1]
+
+
 def page(module):
     """The text of the file."""
     text, scripts = scripts_of((BOARD / "index.html").read_text())
@@ -120,10 +128,12 @@ def page(module):
         f'<script type="text/plain" id="worker">{(HERE / "worker.js").read_text()}</script>',
         f'<script type="text/plain" id="hexd" {words} data-packed>{packed(module)}</script>',
         f'<script type="text/plain" id="openings" data-packed>{packed(json.dumps(openings()).encode())}</script>',
-        f'<script type="application/json" id="settings">{settings(None)}</script>',
+        f'<script type="application/json" id="given">{settings(None)}</script>',
         *(f"<script>{script}</script>" for script in scripts),
     ]
-    return put(text, "</body>", "\n".join([*parts, "</body>"]))
+    made = put(text, "</body>", "\n".join([*parts, "</body>"]))
+    assert not twice(made), f"two elements have one id: {twice(made)}"
+    return made
 
 
 def content(text):

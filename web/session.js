@@ -6,7 +6,7 @@
 class Refused extends Error {}
 
 // A page's hexd has one thread.
-const SETTINGS = {...JSON.parse(document.getElementById('settings').textContent), workers: 1};
+const SETTINGS = {...JSON.parse(document.getElementById('given').textContent), workers: 1};
 // The file that stands for a record (worker.js).
 const RECORD = 'record.sgf';
 // A module's memory never shrinks: past so many bytes the next game gets a new run.
@@ -38,6 +38,9 @@ class Session {
 
   /** Who is proved to win after Black's first stone on this cell: 'black', 'white' or null. */
   static async winner(size, vertex) { return winnerOf(size, vertex); }
+
+  /** The certificate of an opening of which it is proved who wins. */
+  static async certificate(size, vertex) { return certificateOf(size, vertex); }
 
   /** What stands before the `#` of a link: nothing if the page lies on a disk, which nobody else has. */
   static get address() { return location.protocol === 'file:' ? '' : location.href.replace(/#.*/, ''); }

@@ -53,10 +53,13 @@ FEW_PAGES = 320
 OF_BOARD = """test_size_3_by_clicks test_size_11_by_clicks_and_keys_against_hexd test_hexd_against_itself test_swap
 test_a_reload_keeps_what_hexd_said test_save_and_open test_the_table test_what_is_refused_says_why
 test_a_record_of_another_program test_a_certificate_is_opened test_a_certified_win test_the_map_on_an_empty_board
-test_a_proof_is_played_to_the_end test_hexd_swaps test_a_game_by_the_clock test_a_saved_game""".split()
+test_the_answers_of_an_opening test_guesses_on_an_empty_board test_what_is_quoted_is_a_line
+test_a_proof_is_played_to_the_end test_hexd_swaps test_a_game_by_the_clock test_a_saved_game test_live_analysis
+test_moves_are_judged_by_shares test_the_tree_of_moves test_what_was_deleted_lasts_over_a_reload test_a_wrong_move_is_refuted test_one_is_solved""".split()
 OF_SERVER = """test_a_lost_process test_a_page_that_goes_ends_its_session test_the_page_after_the_last_place test_copies
 test_stop_ends_a_search test_a_certificate_wins_for_a_weak_hexd
-test_back_without_a_process test_to_the_start_by_one_record test_strengths""".split()
+test_back_without_a_process test_to_the_start_by_one_record test_strengths test_a_full_disk
+test_a_server_that_is_started_anew""".split()
 
 
 def missing():
@@ -326,6 +329,15 @@ class Page(InBrowser):
             size, vertex = name.split("-")
             self.assertEqual(winner, self.in_page("Session.winner", int(size), vertex), name)
         self.assertIsNone(self.in_page("Session.winner", 6, "a1"))
+        self.assertIsNone(self.in_page("Session.certificate", 6, "a1"))
+
+    def test_openings_that_are_not_here(self):
+        """Of sizes whose certificates aren't in the page it says so; where nothing is proved it has guesses."""
+        browser = self.open(f"{self.small.as_uri()}#6")
+        until(lambda: "They are not in this page" in browser.text("#words"), "the page says that certificates are elsewhere")
+        self.assertEqual(0, len(browser.all(".opening")))
+        browser = self.open(f"{self.small.as_uri()}#9")
+        self.assertEqual(81, len(browser.all(".guess")))
 
     def test_a_wrong_opening(self):
         """Of a certificate that a run of hexd refuses the page says nothing."""
@@ -392,11 +404,12 @@ class Host:
 
 def of_board(file, browser, is_long):
     """The tests of the board's page with this page in the place of the server's: some, or all that need no server."""
-    from tests import of_choices, of_games, of_hands, of_records, of_thoughts, of_windows, pages
+    from tests import of_choices, of_games, of_hands, of_puzzles, of_records, of_thoughts, of_windows, pages
 
     pages.shared.update(server=NoServer(file), browser=browser)
     loader = unittest.TestLoader()
-    modules = [loader.loadTestsFromModule(it) for it in (of_choices, of_games, of_hands, of_records, of_thoughts, of_windows)]
+    all_of_board = (of_choices, of_games, of_hands, of_puzzles, of_records, of_thoughts, of_windows)
+    modules = [loader.loadTestsFromModule(it) for it in all_of_board]
     found = [test for suites in modules for suite in suites for test in suite]
     return [test for test in found if is_chosen(test, OF_SERVER if is_long else OF_BOARD) != is_long]
 

@@ -10,9 +10,13 @@ const LEAST_VISITS = 10;
 const HATCH = 7;
 let boards = 0;
 
-/** How dark a shade is tells small shares apart too. */
+// The shares of the lightest shade and of the darkest.
+const LIGHTEST = 0.02, DARKEST = 0.64;
+
+/** How dark a shade is: twice the share is a step that one sees, of small shares too. */
 function shadeOf(polygon, share) {
-  polygon.setAttribute('fill-opacity', (0.12 + 0.75 * Math.sqrt(share)).toFixed(3));
+  const part = Math.log2(share / LIGHTEST) / Math.log2(DARKEST / LIGHTEST);
+  polygon.setAttribute('fill-opacity', Math.min(1, Math.max(0, part)).toFixed(3));
   return polygon;
 }
 
@@ -20,6 +24,13 @@ function diamond(x, y) {
   const [left, top] = [(x - 6).toFixed(2), (y - 6).toFixed(2)];
   return svgElement('rect', {class: 'middle', x: left, y: top, width: 12, height: 12,
     transform: `rotate(45 ${x.toFixed(2)} ${y.toFixed(2)})`});
+}
+
+/** A guess of a first stone: a square, in the colour of the player for whom it is better, with Black's share in per cent. */
+function guessed(share, x, y) {
+  const colour = share > 0.5 ? 'b' : 'w', half = RADIUS * 0.5, [left, top] = [(x - half).toFixed(2), (y - half).toFixed(2)];
+  return [svgElement('rect', {class: `guess ${colour}`, x: left, y: top, width: 2 * half, height: 2 * half}),
+    wordsAt(`number ${colour}`, Math.round(100 * share), x, y, 10)];
 }
 
 /** Numbers of more digits are smaller, so that they stay in their cell. */
@@ -128,7 +139,9 @@ class BoardView {
    * Draws what stands on the board. All parts of a view may be left out:
    * stones (Map to 'b' or 'w'), last, chosen and next (vertices), numbers (Map), visits (Map to {visits, won, share}),
    * dimmed, carrier, ends and answers (Sets of vertices), middle (a vertex), edges (Set of 0 to 3), chain (vertices in a
-   * row), openings (Map to 'b' or 'w'), replies (Map to lists of vertices), ghost ('b' or 'w': the colour that a click plays).
+   * row), openings (Map to 'b' or 'w'), guesses (Map to Black's share), replies (Map to lists of vertices), ghost ('b' or 'w':
+   * the colour that a click plays), line (Map to {number, colour}: the stones of moves that may follow); with openings the
+   * board's size.
    */
   show(view) {
     this.view = view;
@@ -152,10 +165,16 @@ class BoardView {
     const round = (name, radius) => svgElement('circle', {class: name, cx: x.toFixed(2), cy: y.toFixed(2), r: radius});
     const made = [];
     if (view.dimmed?.has(vertex)) made.push(this.hatching(x, y));
-    if (seen?.share >= LEAST_SHARE) made.push(shadeOf(inner('shade', RADIUS - 0.5), seen.share));
+    if (seen?.share >= LEAST_SHARE) {
+      made.push(inner('lightest', RADIUS - 0.5), shadeOf(inner('shade', RADIUS - 0.5), seen.share));
+    }
     if (view.carrier?.has(vertex)) made.push(inner('carrier', RADIUS - 3));
     if (view.openings?.has(vertex)) made.push(round(`opening ${view.openings.get(vertex)}`, RADIUS * 0.4));
+    if (view.guesses?.has(vertex)) made.push(...guessed(view.guesses.get(vertex), x, y));
     if (stone) made.push(round(`stone ${stone}`, RADIUS * 0.72));
+    const next = view.line?.get(vertex);
+    if (next) made.push(round(`stone next-${next.number} ${next.colour}`, RADIUS * 0.72));
+    if (next) made.push(wordsAt(`number ${next.colour}`, next.number, x, y, 12));
     if (view.ends?.has(vertex)) made.push(round('end', RADIUS * 0.5));
     if (number !== undefined) made.push(wordsAt(`number ${stone}`, number, x, y, number > 99 ? 10 : 12));
     else if (seen?.share >= LEAST_SHARE) made.push(...this.counts(seen, stone, x, y));
@@ -239,11 +258,14 @@ function cellWords(vertex, view) {
   if (seen?.visits) parts.push(...visitWords(seen));
   if (view.dimmed?.has(vertex)) parts.push('outside a threat');
   if (view.carrier?.has(vertex)) parts.push('in the carrier');
+  if (view.line?.has(vertex)) parts.push(`move ${view.line.get(vertex).number} of the line`);
   if (view.answers?.has(vertex)) parts.push('the answer by the certificate');
   if (view.replies?.has(vertex)) parts.push(`answered by ${view.replies.get(vertex).join(' or ')}`);
   if (winner) {
     const answer = winner === 'b' ? 'White swaps' : 'White does not swap';
-    parts.push(`proved: ${COLOURS[winner]} wins after Black's first stone here, so ${answer}`);
+    const file = view.size ? `; openings/${fileOfOpening(view.size, vertex)}` : '';
+    parts.push(`proved: ${COLOURS[winner]} wins after Black's first stone here, so ${answer}${file}`);
   }
+  if (view.guesses?.has(vertex)) parts.push(`guessed: Black wins ${percent(view.guesses.get(vertex))} after his first stone here`);
   return parts.join(', ');
 }

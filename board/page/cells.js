@@ -16,6 +16,15 @@ const columnOf = vertex => LETTERS.indexOf(vertex[0]);
 const rowOf = vertex => Number(vertex.slice(1)) - 1;
 const verticesOf = size => [...Array(size * size).keys()].map(at => vertexAt(at % size, Math.floor(at / size)));
 
+/** The cell opposite to this one: the board turned by half a circle is the same board. */
+const oppositeOf = (vertex, size) => vertexAt(size - 1 - columnOf(vertex), size - 1 - rowOf(vertex));
+
+/** The file of openings/ with the certificate of an opening: of it and the opposite one that which comes first. */
+function fileOfOpening(size, vertex) {
+  const opposite = oppositeOf(vertex, size), place = cell => rowOf(cell) * size + columnOf(cell);
+  return `${size}-${place(vertex) <= place(opposite) ? vertex : opposite}.cert.xz`;
+}
+
 /** The edges as they are named to a reader: Black joins the first and the last row, White the first and the last column. */
 const edgeNames = size => ({b: ['row 1', `row ${size}`], w: ['column a', `column ${LETTERS[size - 1]}`]});
 

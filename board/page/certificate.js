@@ -76,43 +76,73 @@ class Entry {
     if (rule === 'adj') return `${names} touch`;
     if (rule === 'or' || rule === 'cases') return `${names} are linked: whatever comes, line ${lines} is left`;
     if (rule === 'and') return `${names} are linked, through ${between.name}`;
+    if (rule === 'lift') return `${names} are linked: these stones more leave what line ${lines} links`;
     if (rule === 'done') return `${names} are linked by stones`;
     return `${names} are linked once ${mine} plays ${cell}`;
   }
 }
 
-/** Fills in what one line gives, from the entries that it takes. */
-function fill(entry, elementOf) {
+/** Fills in what one line gives, from the entries that it takes. `scope` are the stones of the last `put`. */
+function fill(entry, elementOf, scope) {
   const {rule, given, parts, board: {size}} = entry;
   for (const {mask} of parts) entry.mask |= mask;
   if (rule === 'adj') entry.ends = given.map(elementOf);
   else if (rule === 'or') entry.ends = parts[0].ends;
+  else if (rule === 'lift') entry.ends = parts[0].ends.map(({members}) => elementOf(members[0]));
   else if (rule === 'and' || rule === 'key') ({shared: entry.between, ends: entry.ends} = joined(...parts));
   else if (rule !== 'put') entry.ends = [elementOf('edge1'), elementOf('edge2')];
   if (rule === 'key') [entry.cell] = entry.between.cells;
   if (rule === 'move') [entry.cell] = given;
+  if (rule === 'lift') entry.cell = parts[0].cell;
   if (entry.cell) entry.mask |= bitOf(entry.cell, size);
+  if (rule === 'lift') for (const vertex of scope) entry.mask &= ~bitOf(vertex, size);
   return entry;
+}
+
+/** A certificate that is read line by line: a long one in parts. */
+class CertificateReading {
+  constructor(text) {
+    const [, size, player, black, white, ...rest] = text.trimEnd().split('\n'), value = line => line.split(' ')[1];
+    this.board = {size: Number(value(size)), player: value(player)[0]};
+    this.own = (this.board.player === 'b' ? black : white).split(' ').slice(1);
+    this.claim = rest.pop().split(' ');
+    Object.assign(this, {rest, lines: [], scopes: new Map()});
+    this.enter([]);
+  }
+
+  /** The scope of the lines from here on. */
+  enter(scope) {
+    const key = scope.join(' ');
+    if (!this.scopes.has(key)) this.scopes.set(key, elementsOf({...this.board, own: [...this.own, ...scope]}));
+    Object.assign(this, {scope, elementOf: this.scopes.get(key)});
+  }
+
+  /** Reads so many lines more, and says whether any are left. */
+  read(count) {
+    const end = Math.min(this.rest.length, this.lines.length + count);
+    while (this.lines.length < end) this.take(this.rest[this.lines.length]);
+    return end < this.rest.length;
+  }
+
+  take(text) {
+    const [rule, ...given] = text.split(' '), entry = new Entry(text, rule, given, this.board);
+    const numbers = {adj: [], put: [], done: [], move: given.slice(1)}[rule] ?? given;
+    entry.parts = numbers.map(number => this.lines[Number(number)]);
+    if (rule === 'put') this.enter(given);
+    this.lines.push(fill(entry, this.elementOf, this.scope));
+  }
+
+  get whole() {
+    const {board: {size, player}, claim: [kind, number], lines} = this;
+    return {size, player, claim: kind, lines, claimed: lines[Number(number)]};
+  }
 }
 
 /** A certificate: {size, player, claim ('full' or 'semi'), lines, claimed (the entry that the claim names)}. */
 function readCertificate(text) {
-  const [, sizeLine, playerLine, black, white, ...rest] = text.trimEnd().split('\n').map(line => line.split(' '));
-  const size = Number(sizeLine[1]), player = playerLine[1][0], claim = rest.pop();
-  const own = (player === 'b' ? black : white).slice(1), board = {size, player}, scopes = new Map(), lines = [];
-  let elementOf = elementsOf({size, player, own});
-  for (const [rule, ...given] of rest) {
-    const entry = new Entry([rule, ...given].join(' '), rule, given, board);
-    const numbers = {adj: [], put: [], done: [], move: given.slice(1)}[rule] ?? given;
-    entry.parts = numbers.map(number => lines[Number(number)]);
-    if (rule === 'put') {
-      const key = given.join(' ');
-      if (!scopes.has(key)) scopes.set(key, elementsOf({size, player, own: [...own, ...given]}));
-      elementOf = scopes.get(key);
-    }
-    lines.push(fill(entry, elementOf));
-  }
-  return {size, player, claim: claim[0], lines, claimed: lines[Number(claim[1])]};
+  const reading = new CertificateReading(text);
+  reading.read(Infinity);
+  return reading.whole;
 }
 
 /** The stones of a certificate's board, as pairs of a vertex and a colour. */

@@ -12,14 +12,18 @@ class Choices {
 
   clear() { Object.assign(this, {pointed: null, pinned: null}); }
 
+  /** Marks what is pointed at, or nothing. */
+  pointTo(marks) {
+    if (!marks && !this.pointed) return;
+    this.pointed = marks;
+    this.onChange();
+  }
+
   /** A line that marks something while it is pointed at or has the focus, and longer when it is pressed. */
   line(marksOf, ...words) {
     const button = htmlElement('button', {type: 'button', 'aria-pressed': 'false'}, ...words);
-    const point = marks => { this.pointed = marks; this.onChange(); };
-    button.addEventListener('pointerenter', () => point(marksOf()));
-    button.addEventListener('focus', () => point(marksOf()));
-    button.addEventListener('pointerleave', () => point(null));
-    button.addEventListener('blur', () => point(null));
+    for (const kind of ['pointerenter', 'focus']) button.addEventListener(kind, () => this.pointTo(marksOf()));
+    for (const kind of ['pointerleave', 'blur']) button.addEventListener(kind, () => this.pointTo(null));
     button.addEventListener('click', () => {
       const was = button.getAttribute('aria-pressed') === 'true';
       const pressed = document.querySelectorAll('.choices [aria-pressed=true]');

@@ -36,10 +36,17 @@ function shareOf(thought) {
   return row?.[1] ? row[2] / row[1] : null;
 }
 
-/** Whether White should swap by what hexd said of his best move: a swap is worth what that leaves to Black. */
-const isSwapBetter = thought => thought.lost || (!thought.win && (shareOf(thought) ?? 1) < 0.5);
+/** Whether a guess of Black's first stone stands in place of hexd's own look at it: one with more nodes is better. */
+const isByGuess = (thought, guess) => Boolean(guess) && !thought.win && !thought.lost && (thought.budget ?? 0) <= guess.nodes;
 
-const swapWords = thought => (thought.lost ? 'hexd swaps: else White loses with every move.'
-  : `hexd swaps: without it White wins ${percent(shareOf(thought))}, by its search.`);
+/** White's share without a swap, by a guess or by the search for his best move. */
+const shareWithoutSwap = (thought, guess) => (isByGuess(thought, guess) ? 1 - guess.share : shareOf(thought) ?? 1);
+
+/** Whether White should swap by what hexd said of his best move, or by a guess: a swap is worth what that leaves to Black. */
+const isSwapBetter = (thought, guess = null) => thought.lost || (!thought.win && shareWithoutSwap(thought, guess) < 0.5);
+
+const swapWords = (thought, guess = null) => (thought.lost ? 'hexd swaps: else White loses with every move.'
+  : `hexd swaps: without it White wins ${percent(shareWithoutSwap(thought, guess))}, by ${
+    isByGuess(thought, guess) ? 'its guess of this opening' : 'its search'}.`);
 
 const evenWords = even => `An opening near even, ${even}: White would take over one that wins.`;

@@ -22,6 +22,11 @@ class Pace {
     return {weight, ...Object.fromEntries(Object.entries(counts).map(([name, number]) => [name, times(number)]))};
   }
 
+  /** Has the next search take no longer than these seconds, as far as the last ones tell. */
+  within(seconds) {
+    if (this.paces.length) this.factor = Math.min(this.factor, this.clock.share * seconds / Math.max(...this.paces));
+  }
+
   /** Takes note of a search that ran its whole length with these options. */
   took(milliseconds) {
     const {clock: {share, growth}, seconds, factor} = this;

@@ -26,5 +26,7 @@ function wireFiles(play) {
 }
 
 /** The line of a game as the forms of links take it. */
-const lineOf = ({tree}) =>
-  ({size: tree.size, start: tree.start, steps: tree.line.slice(1).map(({step}) => step), position: tree.at.number});
+const lineOf = ({tree}) => ({
+  size: tree.size, start: tree.start, steps: tree.line.slice(1).map(({step}) => step), end: tree.line.at(-1).end,
+  position: tree.at.number,
+});

@@ -43,11 +43,11 @@ class Game {
     return [...this.stones.keys()].find(vertex => !later.has(vertex));
   }
 
-  /** What hexd said of this position, and else of the move that led to it: with whether it is of this one. */
+  /** What hexd said of this position, and else, but in a puzzle, of the move that led to it: with whether it is of this one. */
   get shown() {
     const {at} = this, before = at.parent?.thought;
     if (at.thought) return {thought: at.thought, here: true};
-    return before && before.cell === at.step.move ? {thought: before, here: false} : null;
+    return before && before.cell === at.step.move && !puzzleOf(this.tree) ? {thought: before, here: false} : null;
   }
 
   /** Has the session hold the moves up to a position: one more or one less, or all of them anew by one record. */
@@ -143,15 +143,18 @@ class Game {
     await this.goTo(position);
   }
 
-  /** Lets hexd move for who is to move, and keeps what it says of it; it swaps if its search says so. */
-  async generate() {
+  /** Lets hexd move for who is to move, and keeps what it says of it; it swaps if its search, or a guess, says so. */
+  async generate(guess = null) {
     const {at, mover} = this;
     await this.think(at);
     const {thought} = at;
     // Who is proved to win, or to lose, is no matter of a search.
     const isProved = winnerByStones(at, null) === 'w';
-    if (at.facts.canSwap && !isProved && isSwapBetter(thought)) await this.playKnown({move: SWAP, why: swapWords(thought)});
-    else await this.play(thought.cell);
+    if (at.facts.canSwap && !isProved && isSwapBetter(thought, guess)) {
+      await this.playKnown({move: SWAP, why: swapWords(thought, guess)});
+    } else {
+      await this.play(thought.cell);
+    }
   }
 
   /** Plays a move that hexd has by other means than a search. */
@@ -165,6 +168,7 @@ class Game {
     this.held = null;
     const begun = this.now(), cell = await this.session.ask(`genmove ${position.mover}`);
     const took = this.now() - begun, thought = await this.ask(position, cell);
+    thought.budget = this.options.look;
     // A move that was certified was not searched for.
     if (thought.rows.length) this.took = {milliseconds: took, options: this.options};
     return thought;

@@ -38,6 +38,7 @@ const kept = {
     for (const element of this.elements(of)) {
       const value = values[element.id];
       if (typeof value === 'boolean') element.checked = value;
+      else if (element.type === 'number' && value !== undefined) element.value = value;
       else if ([...element.options ?? []].some(option => option.value === value)) element.value = value;
     }
   },
@@ -53,7 +54,7 @@ class Keeping {
     this.trees.set(tree.id, tree);
     // Where one has gone to another entry meanwhile, this one isn't the game's.
     if (!anew && history.state && history.state.id !== tree.id) return;
-    const state = {id: tree.id, record: recordOfTree(tree)}, link = `#${linkOfTree(tree)}`;
+    const state = {id: tree.id, record: recordOfTree(tree), cuts: writeCuts(tree)}, link = `#${linkOfTree(tree)}`;
     try {
       if (anew) history.pushState(state, '', link);
       else history.replaceState(state, '', link);
@@ -68,6 +69,7 @@ class Keeping {
     if (this.trees.has(state.id)) return this.trees.get(state.id);
     const {tree} = treeOfRecord(state.record);
     tree.id = state.id;
+    readCuts(tree, state.cuts ?? []);
     await this.store.fill(tree);
     return tree;
   }

@@ -4,8 +4,10 @@
 // moves without a size are read too.
 
 const HEXWORLD = 'https://hexworld.org/board/#';
-// What HexWorld writes for what is no cell. Of these a swap alone has a place in a game here.
-const HEXWORLD_SWAP = ':s';
+// What HexWorld writes for what is no cell: a swap, a pass, and how a player ends the game (`:rb`, Black resigns).
+const HEXWORLD_SWAP = ':s', HEXWORLD_PASS = ':p';
+const HEXWORLD_ENDINGS = {r: 'resign', f: 'forfeit'};
+const HEXWORLD_END = /^:([rf])([bw])$/;
 const PART = /^(\+?)(?:([bw])-)?([a-k][1-9][0-9]?|swap)$/;
 
 /** The moves in the form of a link. */
@@ -28,12 +30,12 @@ function linkOf({size, start, steps, position}) {
 const linkOfTree = tree =>
   linkOf({size: tree.size, start: tree.start, steps: tree.line.slice(1).map(({step}) => step), position: tree.at.number});
 
-/** A link to HexWorld with the same moves; null where that has no form for them. */
-function hexWorldLink({size, start, steps, position}) {
+/** A link to HexWorld with the same moves, and the same end; null where that has no form for them. */
+function hexWorldLink({size, start, steps, end, position}) {
   if (start.length || steps.some(({colour}, at) => colour !== 'bw'[at % 2])) return null;
   const text = part => part.map(({move}) => (move === SWAP ? HEXWORLD_SWAP : move)).join('');
-  const later = text(steps.slice(position));
-  return `${HEXWORLD}${size},${text(steps.slice(0, position))}${later && `,${later}`}`;
+  const parts = [text(steps.slice(0, position)), text(steps.slice(position))].filter((part, at) => part || !at);
+  return `${HEXWORLD}${[size, ...parts].join(',')}${end ? `:${end.move[0]}${end.colour}` : ''}`;
 }
 
 /** A text from a box or an address: percent signs that stand for characters are taken so, and others as they are. */
@@ -48,10 +50,10 @@ function unescaped(text) {
 /** What HexWorld's link holds: its parts are the moves up to where it stands, and those behind. */
 function readHexWorld(text) {
   const [head, played = '', later = ''] = text.split(',');
-  const cut = part => part.match(/[a-z][0-9]+|:(?:[rf][bw]|[a-z])/g) ?? [];
-  const words = [...cut(played), ...cut(later)].map(word => (word === HEXWORLD_SWAP ? 'swap' : word));
-  const size = /^\d+/.exec(head)?.[0];
-  return {size, parts: words, position: cut(played).length};
+  const cut = part => (part.match(/[a-z][0-9]+|:(?:[rf][bw]|[a-z])/g) ?? [])
+    .map(word => (word === HEXWORLD_SWAP ? 'swap' : word));
+  const moves = cut(played), size = /^\d+/.exec(head)?.[0];
+  return {size, parts: [...moves, ...cut(later)], position: moves.filter(word => word[0] !== ':').length};
 }
 
 /** What other texts hold: moves may stand together, be numbered, and be without a size before them. */
@@ -65,17 +67,33 @@ function readPlain(text, sizeHere) {
   return {size, parts, position};
 }
 
-/** The game that a text names: {size, start, steps, position}, or Refused. `sizeHere` is the size of moves without one. */
+/** What a part says that is no move: notes of a pass, which Hex hasn't, and of an end. False if it says nothing of these. */
+function takeSign(game, part, number, turn) {
+  const [, how, colour] = HEXWORLD_END.exec(part) ?? [];
+  if (part === HEXWORLD_PASS) game.notes.push(passWords(COLOURS[turn], number));
+  if (how) {
+    game.end = {colour, move: HEXWORLD_ENDINGS[how], properties: {}};
+    game.notes.push(endWords(COLOURS[colour], number));
+  }
+  return part === HEXWORLD_PASS || Boolean(how);
+}
+
+/** The game that a text names: {size, start, steps, end, position, notes}, or Refused. `sizeHere` is the size of moves without
+    one, and `end` a resignation. */
 function gameOfText(given, sizeHere) {
   const whole = unescaped(given.trim()).toLowerCase(), text = whole.slice(whole.indexOf('#') + 1).trim();
   const {size, parts, position} = whole.includes('hexworld') ? readHexWorld(text) : readPlain(text, sizeHere);
   if (!/^\d{1,4}$/.test(size ?? '')) throw new Refused('a link begins with the size of the board, 1 to 11');
   if (!(size >= 1 && size <= LETTERS.length)) throw new Refused(`size ${size}: hexd plays 1 to ${LETTERS.length}`);
-  const game = {size: Number(size), start: [], steps: [], position};
+  const game = {size: Number(size), start: [], steps: [], end: null, position, notes: []};
   let turn = 'b';
-  for (const part of parts) {
+  for (const [at, part] of parts.entries()) {
+    if (takeSign(game, part, at + 1 - game.start.length, turn)) {
+      turn = other(turn);
+      continue;
+    }
     const found = PART.exec(part);
-    if (!found) throw new Refused(`'${part}' is no move`);
+    if (!found) throw new Refused(`${quoted(part)} is no move`);
     const [, plus, colour = turn, move] = found;
     if (plus) {
       game.start.push([colour, move]);

@@ -1,21 +1,18 @@
 'use strict';
 // What the page shows: the board with its marks, the words beside it, and which buttons can be used.
 
-// From this size on an empty board shows no map of openings.
-const LARGEST_MAP = 7;
-
 class Panel {
   constructor(game, view) {
-    Object.assign(this, {game, view, drawn: null, openings: new Map(), cell: null});
+    Object.assign(this, {game, view, drawn: null, cell: null, unfolded: new Set()});
     this.choices = new Choices(() => this.drawBoard());
   }
 
   /** Draws all of it. `state` has `busy`, `thinking`, `lost`, `full` and `players`. */
   draw(state) {
-    const {game} = this, line = game.tree.line, said = game.at.solved?.proof ? game.at.solved : game.shown?.thought;
+    const {game} = this, {line} = game.tree, said = game.at.solved?.proof ? game.at.solved : game.shown?.thought;
     this.state = state;
-    this.proofs = provedAlong(line);
-    this.proof = this.proofs[game.at.number];
+    const proofs = provedAlong(line), {unfolded} = this, judgements = judgedAlong(line, proofs);
+    Object.assign(this, {proofs, proof: shownProof(game.tree, proofs[game.at.number]), judgements});
     if (said !== this.drawn) {
       this.choices.clear();
       this.drawn = said;
@@ -23,12 +20,29 @@ class Panel {
       this.choices.drawProof(said);
     }
     this.drawStatus(state);
-    this.replies = game.winner ? new Map() : repliesOf(this.proof, game);
-    const known = {even: state.strengths?.even(game.size), replies: this.replies, progress: state.progress};
+    this.replies = this.answers();
+    const known = {
+      even: state.strengths?.even(game.size), guesses: state.strengths?.guesses, replies: this.replies, progress: state.progress,
+      nodes: state.live?.nodes, judgement: judgements.get(game.at),
+    };
     byId('words').replaceChildren(...thoughtElements(game, this.proof, this.map, known));
     this.drawBoard();
-    drawCourse(game, this.proofs, position => this.onGoTo(position));
+    const onFold = position => {
+      if (!unfolded.delete(position)) unfolded.add(position);
+      this.draw(this.state);
+    };
+    drawCourse(game, this.proofs, {unfolded, judgements, onGoTo: position => this.onGoTo(position), onFold});
+    byId('mistake').disabled = !nextBad(line, judgements, game.at);
+    drawComment(game);
+    drawEvaluation(byId('evaluation'), evaluationOf(game, this.proof));
     this.drawControls(state);
+  }
+
+  /** Draws anew what fills its place in the window. */
+  resize() {
+    this.drawBoard();
+    this.view.scale();
+    if (this.proofs) drawShares(this.game, this.proofs, position => this.onGoTo(position));
   }
 
   drawStatus(state) {
@@ -39,11 +53,22 @@ class Panel {
     document.body.setAttribute('aria-busy', Boolean(state.busy));
   }
 
-  /** The map of openings, where the empty board has one. */
-  get map() {
-    const {game} = this;
-    return game.tree.start.length || game.at.number ? null : this.openings.get(game.size) ?? null;
+  /** What an opening's certificate answers, as long as hexd has said nothing of the position itself. */
+  get answered() { return this.game.shown?.here ? null : this.game.at.answered; }
+
+  /** The answers to what the other player may do, by what is proved of the position. */
+  answers() {
+    const {game, proof, answered} = this;
+    if (game.winner) return new Map();
+    const replies = repliesOf(proof, game);
+    return replies.size ? replies : answered?.replies ?? replies;
   }
+
+  /** Whether the board is the empty one on which openings are shown. */
+  get isFirst() { return !this.game.tree.start.length && !this.game.at.number; }
+
+  /** The map of openings that are proved, where the empty board has one. */
+  get map() { return this.isFirst ? this.state?.firstStones.maps.get(this.game.size) ?? null : null; }
 
   drawBoard() {
     const {game} = this;
@@ -62,7 +87,9 @@ class Panel {
     if (this.state && !game.winner && this.state.players[mover] === 'I') marks.ghost = mover;
     if (at.facts.winner) marks.chain = chainOf(at.facts.stones, at.facts.winner, game.size);
     if (choices.marks) return Object.assign(marks, choices.marks);
-    if (this.map) marks.openings = this.map;
+    if (this.map) Object.assign(marks, {openings: this.map, size: game.size});
+    else if (this.isFirst) marks.guesses = this.state?.strengths?.guesses.map(game.size);
+    if (this.answered?.cell) marks.answers = new Set([this.answered.cell]);
     const solved = at.solved?.proof ? at.solved : null, {proof: certificate} = solved ?? shown?.thought ?? {};
     if (on('show-carrier') && certificate) marks.carrier = certificate.claimed.carrier;
     if (solved) return this.withReplies(Object.assign(marks, {chosen: solved.cell}), on);

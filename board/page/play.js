@@ -7,7 +7,7 @@ class Play {
   constructor() {
     Object.assign(this, {busy: false, thinking: null, progress: null, running: false, waiting: []});
     Object.assign(this, {opening: false, stopping: false});
-    Object.assign(this, {lost: null, full: false, cuts: [], strengths: null, entered: false, isNew: false});
+    Object.assign(this, {lost: null, full: false, strengths: null, entered: false, isNew: false});
     this.view = new BoardView(byId('board'), {
       onPick: vertex => this.pick(vertex),
       onPoint: vertex => this.panel.drawReadout(vertex),
@@ -17,6 +17,9 @@ class Play {
     this.panel.onGoTo = position => this.act(() => this.game.goTo(position));
     this.message = new Message(byId('said'));
     this.keeping = new Keeping();
+    this.live = new Live(this);
+    this.firstStones = new FirstStones(this);
+    this.timing = new Timing(this);
   }
 
   get players() { return {b: byId('player-b').value, w: byId('player-w').value}; }
@@ -26,6 +29,8 @@ class Play {
   draw() {
     this.panel.draw(this);
     drawHands(this);
+    this.live.follow();
+    if (!this.busy) this.firstStones.follow();
   }
 
   /** Does one thing after another, in the order in which they come. `goOn`: then hexd moves as long as it is its turn. */
@@ -72,20 +77,9 @@ class Play {
     const {game, keeping} = this, {at} = game;
     keeping.keep(game.tree, this.isNew);
     this.isNew = false;
-    if (at.number === 1 && !game.tree.start.length && at.step.colour === 'b' && at.opening === undefined) {
-      at.opening = (await Session.winner(game.size, at.step.move))?.[0] ?? null;
-    }
-    if (game.tree.isEmpty) this.drawMap(game.size);
-    this.draw();
-  }
-
-  /** The map of openings comes when it is there: nothing waits for it. */
-  async drawMap(size) {
-    const {openings} = this.panel;
-    if (size > LARGEST_MAP || openings.has(size)) return;
-    openings.set(size, null);
-    const found = Object.entries(await Session.winners(size).catch(() => ({})));
-    if (found.length) openings.set(size, new Map(found.map(([vertex, winner]) => [vertex, winner[0]])));
+    this.timing.settle();
+    await judgePuzzle(this);
+    if (firstStone(at) && at.opening === undefined) at.opening = (await Session.winner(game.size, at.step.move))?.[0] ?? null;
     this.draw();
   }
 
@@ -119,7 +113,7 @@ class Play {
 
   async search() {
     this.startClock(`thinks for ${COLOURS[this.game.mover]}`);
-    await this.searching(() => this.game.generate());
+    await this.searching(() => this.game.generate(this.strengths.guesses.of(this.game.at)));
     this.stopClock();
   }
 
@@ -141,8 +135,12 @@ class Play {
     }
   }
 
-  /** What the clock gives a move, if hexd plays by one; else null. */
-  get pace() { return this.strengths.pace(strengthOf(), this.game.size); }
+  /** What the clock gives a move, if hexd plays by one; else null. A game's clock may leave it less. */
+  get pace() {
+    const pace = this.strengths.pace(strengthOf(), this.game.size), {seconds} = this.timing;
+    if (pace && seconds !== null) pace.within(seconds);
+    return pace;
+  }
 
   /** The options of hexd that are wanted now. */
   get options() { return this.strengths.options(strengthOf(), this.game.size); }
@@ -242,8 +240,18 @@ class Play {
     if (!text.trim()) return;
     if (text.trim().startsWith('(')) return this.open(new Blob([text]));
     this.stop();
-    return this.act(async () => this.take(treeOfMoves(gameOfText(text, this.game.size))));
+    return this.act(() => this.takeText(text));
   }
+
+  /** The game that a text names, and what of it is changed. */
+  async takeText(text) {
+    const named = gameOfText(text, this.game.size);
+    await this.take(treeOfMoves(named));
+    this.message.say(named.notes.join(' '));
+  }
+
+  /** The game of the address, which no other makes place for. */
+  takeHash(hash) { return this.game.take(treeOfMoves(gameOfText(hash, this.game.size))); }
 
   async copy(text, why) {
     if (text === null) return this.message.say(why);
@@ -261,6 +269,12 @@ class Play {
       await this.searching(() => this.game.think(position));
       this.keeping.store.keep(this.game.tree);
     }
+  }
+
+  /** To the next move of the line that is judged bad. */
+  async goToMistake() {
+    const {tree, at} = this.game, bad = nextBad(tree.line, this.panel.judgements, at);
+    if (bad) await this.game.goTo(bad);
   }
 
   /** Who wins, by the solver: what it has done so far is told, and stays if it is stopped. */
@@ -298,7 +312,7 @@ class Play {
     const {state, hash} = {state: history.state, hash: location.hash}, tree = await this.keeping.treeOf(state);
     this.entered = true;
     if (tree) await this.game.take(tree);
-    else if (hash.length > 1) await this.game.take(treeOfMoves(gameOfText(hash, this.game.size)));
+    else if (hash.length > 1) await this.takeHash(hash);
     // After a reload, and on an empty board, hexd moves where it is its turn; in a game that was sent it waits.
     this.running = (Boolean(tree) || hash.length <= 1) && !this.game.at.next;
   }
@@ -311,7 +325,7 @@ class Play {
     this.act(async () => {
       const tree = await this.keeping.treeOf(state);
       if (tree) await this.game.take(tree);
-      else if (location.hash.length > 1) await this.game.take(treeOfMoves(gameOfText(location.hash, this.game.size)));
+      else if (location.hash.length > 1) await this.takeHash(location.hash);
     });
   }
 

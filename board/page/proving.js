@@ -2,14 +2,14 @@
 // Who wins, on every size: the solver with one budget after another, each four times the last one, so that one sees how far
 // it has come, and what the next one would take.
 
-const FIRST_BUDGET = 1_000, GROWTH = 4;
+const FIRST_BUDGET = 100, GROWTH = 4;
 // The solver is left to itself up to this budget; a further one is for who presses the button again.
-const LAST_BUDGET = 1_024_000;
+const LAST_BUDGET = 1_638_400;
 
 /** The budget after the one that a position's last answer has spent; the first one if there is none. */
 const nextBudget = solved => (solved?.spent ? GROWTH * solved.spent : FIRST_BUDGET);
 
-/** What the solver has done, while it works: `1,000 positions in 2 s, no end yet; now up to 4,000`. */
+/** What the solver has done, while it works: `1,600 positions in 2 s, no end yet; now up to 6,400`. */
 function progressWords({spent, seconds}, budget) {
   const now = `up to ${counted(budget, 'position')}`;
   return spent ? `${counted(spent, 'position')} in ${secondsWords(seconds)}, no end yet; now ${now}` : now;

@@ -5,6 +5,8 @@
 // reports and hexd-gtp; both are tested by ../tests/table.py.
 
 const ENDINGS = ['resign', 'forfeit'];
+// So many changes of a record are told.
+const MOST_NOTES = 20;
 const TURNED = {B: 'W', W: 'B'};
 // What names a colour: the result, and who is to move.
 const OF_COLOURS = ['RE', 'PL'];
@@ -39,15 +41,53 @@ function cellOf(value, crossed = false) {
 
 /** The size of the board in a record: a number, or the same one twice. */
 function sizeOf({GM: [game] = ['11'], SZ: [size] = ['11']}) {
-  if (game.trim() !== '11') throw new Refused(`it is a record of another game than Hex: GM[${game.trim()}]`);
+  if (game.trim() !== '11') throw new Refused(`it is a record of another game than Hex: GM[${shownValue(game)}]`);
   const number = Number(/^(\d{1,4})(?::\1)?$/.exec(size.trim())?.[1]);
-  if (!(number >= 1 && number <= LETTERS.length)) throw new Refused(`size ${size.trim()}: hexd plays 1 to ${LETTERS.length}`);
+  if (!(number >= 1 && number <= LETTERS.length)) throw new Refused(`size ${shownValue(size)}: hexd plays 1 to ${LETTERS.length}`);
   return number;
 }
 
 const movesIn = ({properties}) => ['B', 'W'].flatMap(name => (properties[name] ?? []).map(value => [name, value]));
-const quoted = value => `'${value.trim().slice(0, 20)}'`;
+const quoted = value => `'${shownValue(value)}'`;
+const passWords = (player, number) => `Move ${number} is a pass of ${player}'s, which Hex hasn't: it is left out.`;
+const endWords = (player, number) => `${player} resigns at move ${number}.`;
 const isSwap = value => ['swap', SWAP].includes(value.trim().toLowerCase());
+
+/** The stones of the start, while nodes set others and take some away. A record may do so a hundred thousand times. */
+class Setting {
+  constructor(start) {
+    // Each stone that was set, and by its cell those that lie.
+    Object.assign(this, {set: [], lying: new Map(), isUsed: false});
+    for (const name of STONES) for (const value of start[name] ?? []) this.put(name, value);
+  }
+
+  put(name, value) {
+    const cell = cellOf(value), stone = {name, value, isAway: false};
+    this.set.push(stone);
+    if (!this.lying.has(cell)) this.lying.set(cell, []);
+    this.lying.get(cell).push(stone);
+  }
+
+  take(value) {
+    const cell = cellOf(value);
+    for (const stone of this.lying.get(cell) ?? []) stone.isAway = true;
+    this.lying.delete(cell);
+  }
+
+  /** Does to the stones what a node does, which has it no longer. */
+  setUp({properties}) {
+    for (const name of [...STONES, AWAY]) {
+      for (const value of properties[name] ?? []) {
+        this.isUsed = true;
+        this.take(value);
+        if (name !== AWAY) this.put(name, value);
+      }
+      delete properties[name];
+    }
+  }
+
+  stones(name) { return this.set.filter(stone => stone.name === name && !stone.isAway).map(({value}) => value); }
+}
 
 /** Puts the nodes of a tree into hexd's form, and notes what it changes. */
 class RecordReader {
@@ -72,22 +112,12 @@ class RecordReader {
 
   /** Stones that are set or taken away behind the root, before the first move and the first side line, are the start's. */
   gatherStart() {
+    const start = this.root.properties, setting = new Setting(start);
     for (let node = this.root; !movesIn(node).length && node.children.length === 1;) {
       [node] = node.children;
-      this.setUp(node);
+      setting.setUp(node);
     }
-  }
-
-  /** Does to the stones of the start what a node does, which has it no longer. */
-  setUp({properties}) {
-    const start = this.root.properties;
-    for (const name of [...STONES, AWAY]) {
-      for (const value of properties[name] ?? []) {
-        for (const colour of STONES) start[colour] = (start[colour] ?? []).filter(other => cellOf(other) !== cellOf(value));
-        if (name !== AWAY) start[name].push(value);
-      }
-      delete properties[name];
-    }
+    for (const name of setting.isUsed ? STONES : []) start[name] = setting.stones(name);
   }
 
   /** Puts each node into hexd's form. A side line is left out if it can't be; Refused in the main line. */
@@ -160,10 +190,10 @@ class RecordReader {
   convertMove(node, name, value, number) {
     const move = this.moveOf(name, value, number), player = COLOURS[this.nameOf(name).toLowerCase()];
     if (move !== null && move !== 'swap-sides') node.properties[this.nameOf(name)] = [move];
-    if (move === null) this.notes.push(`Move ${number} is a pass of ${player}'s, which Hex hasn't: it is left out.`);
+    if (move === null) this.notes.push(passWords(player, number));
     else if (move === 'swap-sides') {
       this.notes.push(`Move ${number} swaps sides: the stones stay, and the players have changed their colours.`);
-    } else if (ENDINGS.includes(move)) this.notes.push(`${player} resigns at move ${number}.`);
+    } else if (ENDINGS.includes(move)) this.notes.push(endWords(player, number));
   }
 
   stoneOf(value) {
@@ -188,6 +218,8 @@ function readRecord(text) {
   if (!root) throw new Refused('it is no record of a game');
   const reader = new RecordReader(root), {size, notes} = reader;
   reader.convert();
+  const more = notes.splice(MOST_NOTES).length;
+  if (more) notes.push(`Of ${grouped(more)} changes more nothing is said.`);
   if (trees > 1) notes.push(`The file has ${trees} games; this is the first.`);
   if (!isWhole) notes.push('The file breaks off in the record: what stands before that is opened.');
   root.properties = {FF: ['4'], GM: ['11'], SZ: [`${size}`], ...without(root.properties, ['FF', 'GM', 'SZ'])};

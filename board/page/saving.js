@@ -19,7 +19,8 @@ function today(now = new Date()) {
 function resultOf(end) {
   const {facts, end: given} = end, winner = facts?.winner ?? (given && other(given.colour));
   if (!winner) return null;
-  return `${winner.toUpperCase()}+${facts?.winner ? '' : {resign: 'R', forfeit: 'F'}[given.move]}`;
+  const how = facts?.winner ? '' : given.move !== 'forfeit' ? 'R' : isByTime(given) ? 'T' : 'F';
+  return `${winner.toUpperCase()}+${how}`;
 }
 
 /** The root's properties as they are saved. `names` are the players' by colour: `hexd (normal)`. */

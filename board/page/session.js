@@ -49,7 +49,8 @@ function answered(answer) {
 class Session {
   constructor(name) { this.path = `session/${name}`; }
 
-  /** board/settings.json as `table`, the options that the server was `started` with, if any, and how many `workers` search. */
+  /** board/settings.json as `table`, the options that the server was `started` with, if any, how many `workers` search, and
+      what is `guessed` of openings (board/guessed.json). */
   static async settings() { return JSON.parse(await request('GET', 'settings')); }
 
   /** Opens a session of a hexd with these options. */
@@ -63,6 +64,9 @@ class Session {
 
   /** Who is proved to win after Black's first stone on this cell: 'black', 'white' or null. */
   static async winner(size, vertex) { return JSON.parse(await request('GET', `openings/${size}-${vertex}`)); }
+
+  /** The certificate of an opening of which it is proved who wins. */
+  static async certificate(size, vertex) { return request('GET', `openings/${size}-${vertex}/certificate`); }
 
   /** What stands before the `#` of a link. It has not the server's token. */
   static get address() { return `${location.origin}/`; }

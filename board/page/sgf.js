@@ -1,6 +1,12 @@
 'use strict';
 // Text of records (SGF): reads a text into nodes with their properties, and writes them. It knows no game.
 
+// So much of a value is quoted; and what isn't printable: it could have a text read otherwise than it stands.
+const MOST_QUOTED = 60, UNPRINTABLE = /(?! )[\p{C}\p{Z}]/gu;
+
+/** A value as it is quoted to a reader: in one line of printable characters, and not all of a long one. */
+const shownValue = value => [...value.trim().slice(0, 2 * MOST_QUOTED)].slice(0, MOST_QUOTED).join('').replace(UNPRINTABLE, '?');
+
 /** A node of a record: its properties, each a name with its values as they stand in the text, and the nodes that follow. */
 const sgfNode = (properties = {}) => ({properties, children: []});
 

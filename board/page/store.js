@@ -5,7 +5,7 @@
 // So many positions are kept, the newest.
 const MOST_KEPT = 2000;
 // What of a position is kept; its name in the database is the game's, and the moves that lead to it.
-const SAID = ['thought', 'solved', 'opening', 'why'];
+const SAID = ['thought', 'solved', 'opening', 'why', 'lines'];
 const MOVES = {name: 'said', key: ['game', 'moves'], index: 'when'};
 
 /** What a request of the database gives. */
@@ -71,7 +71,8 @@ class Store {
     try {
       const rows = await given((await this.table('readonly')).getAll(IDBKeyRange.bound([tree.id, ''], [tree.id, '\uffff'])));
       const byMoves = new Map(rows.map(row => [row.moves, row]));
-      for (const position of tree.positions) this.fillPosition(position, byMoves.get(movesTo(position)));
+      const positions = [...tree.positions, ...tree.cuts.flatMap(({position}) => branchOf(position))];
+      for (const position of positions) this.fillPosition(position, byMoves.get(movesTo(position)));
     } catch {
       // As in `keep`.
     }

@@ -18,9 +18,9 @@ function bySize(values, size) {
   return values[sizes.find(least => least >= size) ?? sizes.at(-1)];
 }
 
-/** Which options hexd gets. `settings` are those of Session.settings: {table, started, workers}. */
+/** Which options hexd gets. `settings` are those of Session.settings: {table, started, workers, guessed}. */
 class Strengths {
-  constructor(settings) { Object.assign(this, settings, {paced: null}); }
+  constructor(settings) { Object.assign(this, settings, {paced: null, guesses: new Guesses(settings.guessed)}); }
 
   /** The options of a strength on a size, those of weight, playouts, look and solve that it has. */
   options(strength, size) {

@@ -18,6 +18,7 @@ function readThought({mover, cell, swap, mustplay, report, look, certificate, ch
   }
   if (look) {
     thought.rows = lookRows(look);
+    thought.lines = lookLines(look);
     thought.playouts = Math.max(1, thought.rows.reduce((sum, [, nodes]) => sum + nodes, 0));
   } else if (report) {
     const [first, ...rows] = report.split('\n');
@@ -36,9 +37,13 @@ function lookRows(look) {
     .map(([vertex, nodes, value, state]) => [vertex, Number(nodes), Number(nodes) * (known[state] ?? Number(value) / 1000)]);
 }
 
-/** The visits of each cell among which was searched, or the nodes of a look-ahead. */
-function visitsOf({rows, playouts, isLook}) {
-  return new Map(rows.map(([vertex, visits, won]) => [vertex, {visits, won, share: visits / playouts, isLook}]));
+/** The line of each cell that has one in a look-ahead, with it: the moves that follow by most walks. */
+const lookLines = look => new Map([...look.matchAll(/^([a-k]\d+) .* line (.*)$/gm)]
+  .map(([, vertex, line]) => [vertex, [vertex, ...line.split(' ')]]));
+
+/** The visits of each cell among which was searched, or the nodes of a look-ahead; none if it is known that all lose. */
+function visitsOf({rows, playouts, isLook, lost}) {
+  return new Map((lost ? [] : rows).map(([vertex, visits, won]) => [vertex, {visits, won, share: visits / playouts, isLook}]));
 }
 
 /** The cells outside the allowed ones; none where there is no threat, or where the board is lost. */
@@ -79,8 +84,10 @@ function thoughtWords(thought) {
     const threats = counted(thought.threats.length, 'threat');
     // One threat leaves its own cells: a board that is lost by one is lost by the solver's certificate.
     const bySolver = `the solver has a certificate for ${his}`, byThreats = `no cell lies in each of ${his}'s ${threats}`;
-    said.push(`${mine} loses with every move${butSwap}: ${thought.threats.length > 1 ? byThreats : bySolver}.`);
-  } else if (thought.threats.length) {
+    // What a search gives its move means nothing then.
+    return [`${mine} loses with every move${butSwap}: ${thought.threats.length > 1 ? byThreats : bySolver}.`];
+  }
+  if (thought.threats.length) {
     said.push(`${his} has ${counted(thought.threats.length, 'threat')}: a stone outside the ${
       counted(thought.allowed.size, 'allowed cell')} loses.`);
   } else {
@@ -97,17 +104,21 @@ function thoughtWords(thought) {
   return said;
 }
 
-/** The moves with most visits, at most five of them: [vertex, visits, won]. */
-const bestMoves = thought => thought.rows.filter(([, visits]) => visits).sort((one, two) => two[1] - one[1]).slice(0, 5);
+/** The moves with most visits, at most five of them: [vertex, visits, won]. None if it is known that all lose. */
+const bestMoves = thought => (thought.lost ? [] : thought.rows).filter(([, visits]) => visits).sort((one, two) => two[1] - one[1]).slice(0, 5);
 
-/** A table of the best moves, with visits and the share of wins for who is to move; null where none was searched. */
-function bestTable(thought) {
+/** A table of the best moves, with visits and the share of wins for who is to move, and what follows them by `lines`, if that
+    is known; null where none was searched. */
+function bestTable(thought, lines) {
   const best = bestMoves(thought);
   if (!best.length) return null;
-  const cells = (tag, ...texts) => htmlElement('tr', {}, ...texts.map(text => htmlElement(tag, {}, text)));
-  const rows = best.map(([vertex, visits, won]) => cells('td', vertex, grouped(visits), percent(won / visits)));
-  const head = cells('th', 'Move', thought.isLook ? 'Nodes' : 'Visits',
-    `${thought.isLook ? 'Worth to ' : ''}${COLOURS[thought.mover]}${thought.isLook ? '' : ' wins'}`);
+  const row = (tag, texts, given = {}) => htmlElement('tr', given, ...texts.map(text => htmlElement(tag, {}, text)));
+  const rows = best.map(([vertex, visits, won]) => {
+    const then = lines ? [(lines.get(vertex) ?? []).slice(1).join(' ')] : [];
+    return row('td', [vertex, grouped(visits), percent(won / visits), ...then], {'data-cell': vertex, tabindex: 0});
+  });
+  const head = row('th', ['Move', thought.isLook ? 'Nodes' : 'Visits',
+    `${thought.isLook ? 'Worth to ' : ''}${COLOURS[thought.mover]}${thought.isLook ? '' : ' wins'}`, ...lines ? ['Then'] : []]);
   return htmlElement('table', {class: 'best'}, htmlElement('thead', {}, head), htmlElement('tbody', {}, ...rows));
 }
 

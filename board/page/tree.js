@@ -10,8 +10,8 @@ class Position {
   constructor(tree, parent, step, properties = {}) {
     // `seen` is the position after this one on the line that was seen last, and `end` a resignation.
     Object.assign(this, {tree, parent, step, properties, children: [], seen: null, end: null});
-    // What hexd and the solver said.
-    Object.assign(this, {facts: null, thought: null, solved: null});
+    // What hexd and the solver said, of the best moves those that follow, and what an opening's certificate answers.
+    Object.assign(this, {facts: null, thought: null, solved: null, lines: null, answered: null});
     // Why hexd made the step without a search, or against it.
     this.why = null;
     this.number = parent ? parent.number + 1 : 0;
@@ -39,9 +39,18 @@ class Position {
   get comment() { return (this.properties.C ?? []).map(plainValue).join('\n\n'); }
 }
 
+/** A position and all after it, each before those after it. */
+function branchOf(position) {
+  const found = [position];
+  for (const one of found) found.push(...one.children);
+  return found;
+}
+
 class Tree {
   constructor(size, start = [], properties = {}) {
     Object.assign(this, {size, start, root: new Position(this, null, null, properties)});
+    // The branches that were deleted (cuts.js), the last one last.
+    this.cuts = [];
     this.at = this.root;
   }
 
@@ -53,11 +62,7 @@ class Tree {
   }
 
   /** All positions, each before those after it. */
-  get positions() {
-    const found = [this.root];
-    for (const position of found) found.push(...position.children);
-    return found;
-  }
+  get positions() { return branchOf(this.root); }
 
   get steps() { return this.at.path.slice(1).map(({step}) => step); }
 
@@ -82,11 +87,12 @@ class Tree {
   get isEmpty() { return !this.start.length && !this.root.children.length; }
 }
 
-/** The tree of moves in a row, which stands behind so many of them. */
-function treeOfMoves({size, start, steps, position = steps.length}) {
+/** The tree of moves in a row, perhaps with an `end`, which stands behind so many of them. */
+function treeOfMoves({size, start, steps, end = null, position = steps.length}) {
   const tree = start.length || steps.length ? new Tree(size, start) : newGame(size);
   let at = tree.root;
   const line = [at, ...steps.map(step => { at = tree.after(at, step); return at; })];
+  at.end = end;
   tree.goTo(at);
   tree.goTo(line[Math.min(position, steps.length)]);
   return tree;
@@ -153,11 +159,17 @@ function headOf({size, start}) {
  * and `ordered` puts the moves after a position into the order of the text.
  */
 function recordOfTree(tree, {head = tree.root.properties, isMarked = true, ordered = children => children} = {}) {
-  const root = sgfNode({...headOf(tree), ...head}), pending = [[tree.root, root]];
-  const isEnd = !isMarked || tree.at === endOf(tree.root);
+  const root = sgfNode({...headOf(tree), ...head}), isEnd = !isMarked || tree.at === endOf(tree.root);
+  growNodes(tree.root, root, ordered, isEnd ? null : tree.at);
+  return writeSgf(root);
+}
+
+/** Puts the nodes of all after a position below its node; that of `marked` gets the mark. */
+function growNodes(first, root, ordered = children => children, marked = null) {
+  const pending = [[first, root]];
   while (pending.length) {
     const [position, node] = pending.pop();
-    if (position === tree.at && !isEnd) node.properties[HERE] = ['1'];
+    if (position === marked) node.properties[HERE] = ['1'];
     for (const child of ordered(position.children)) {
       const made = sgfNode({...stepProperty(child.step), ...child.properties});
       node.children.push(made);
@@ -165,7 +177,6 @@ function recordOfTree(tree, {head = tree.root.properties, isMarked = true, order
     }
     if (position.end) node.children.push(sgfNode({...stepProperty(position.end), ...position.end.properties}));
   }
-  return writeSgf(root);
 }
 
 /** The text of the moves that lead to a position: all that hexd needs of it. */

@@ -2,7 +2,7 @@
 // What each button, switch and key of the page does.
 
 // The keys that are buttons of the bar, and those with Ctrl.
-const KEYS = {ArrowLeft: 'back', ArrowRight: 'forth', Home: 'first', End: 'end', u: 'undo'};
+const KEYS = {ArrowLeft: 'back', ArrowRight: 'forth', Home: 'first', End: 'end', u: 'undo', a: 'live', m: 'mistake'};
 const CONTROL_KEYS = {z: 'undo'};
 
 function wire(play) {
@@ -11,6 +11,9 @@ function wire(play) {
   wireFiles(play);
   wireSwitches(play);
   wireHands(play);
+  wireLive(play);
+  wireTiming(play);
+  wirePuzzles(play);
   addEventListener('keydown', press);
   addEventListener('popstate', ({state}) => play.goBack(state));
   addEventListener('pagehide', () => play.game.session?.close());
@@ -41,6 +44,7 @@ function wireChoices(play) {
   byId('size').append(...sizes);
   byId('size').addEventListener('change', ({target: {value}}) => play.begin(Number(value)));
   byId('analyse').addEventListener('click', () => play.act(() => play.analyse()));
+  byId('mistake').addEventListener('click', () => play.act(() => play.goToMistake()));
   byId('prove').addEventListener('click', () => play.act(() => play.prove()));
 }
 
@@ -55,10 +59,8 @@ function wireSwitches(play) {
   for (const id of ['player-b', 'player-w']) {
     byId(id).addEventListener('change', () => play.act(async () => {}, !play.game.at.next));
   }
-  new ResizeObserver(() => {
-    play.panel.drawBoard();
-    play.view.scale();
-  }).observe(byId('stage'));
+  const resized = new ResizeObserver(() => play.panel.resize());
+  for (const id of ['stage', 'plot']) resized.observe(byId(id));
 }
 
 /** A key that is a button's. In a box keys write, and on the board the arrows go over the cells. */

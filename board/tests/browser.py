@@ -1,6 +1,7 @@
 """A headless Chromium, driven as a user drives it: by the pointer and by keys."""
 
 import atexit
+import contextlib
 import os
 import shutil
 import stat
@@ -8,12 +9,14 @@ import tempfile
 from pathlib import Path
 
 from selenium import webdriver
+from selenium.common.exceptions import StaleElementReferenceException
 from selenium.webdriver.common.action_chains import ActionChains
 from selenium.webdriver.common.by import By
 from selenium.webdriver.common.keys import Keys
 from selenium.webdriver.chrome.service import Service
 from selenium.webdriver.support.ui import Select
 
+from tests.palette import colours_at
 from tests.support import LIMIT_SECONDS, dying, until
 
 # Where Debian's packages put them, and else where the path finds them.
@@ -33,6 +36,8 @@ ARGUMENTS = [
     "--remote-debugging-pipe",
 ]
 WIDE, LAPTOP, OLD, TABLET = (1440, 900), (1280, 680), (1024, 768), (820, 1180)
+# What a browser leaves of a laptop's screen of 1,440 by 900.
+USUAL = (1440, 757)
 NARROW, LYING = (390, 844), (844, 390)
 SMALL, SMALL_LYING = (360, 640), (640, 360)
 PHONES = (NARROW, LYING, SMALL, SMALL_LYING)
@@ -110,13 +115,30 @@ class Browser:
         return self.run("return [...document.querySelectorAll(arguments[0])].map(cell => cell.dataset.vertex)", css)
 
     def text(self, css):
-        return self.find(css).text
+        """The words in an element; it is looked for anew if it was drawn anew meanwhile."""
+        while True:
+            try:
+                return self.find(css).text
+            except StaleElementReferenceException:
+                continue
 
     def click(self, css):
         element = self.find(css)
-        self.run("arguments[0].scrollIntoView({block: 'nearest'})", element)
-        element.click()
-        self.ready()
+        with self.settings(css):
+            self.run("arguments[0].scrollIntoView({block: 'nearest'})", element)
+            element.click()
+            self.ready()
+
+    @contextlib.contextmanager
+    def settings(self, css):
+        """The settings are open meanwhile, if an element is one of them and isn't seen."""
+        hidden = "const it = document.querySelector(arguments[0]); return Boolean(it.closest('#settings') && !it.checkVisibility())"
+        is_hidden = self.run(hidden, css)
+        if is_hidden:
+            self.find("#set").click()
+        yield
+        if is_hidden:
+            self.run("document.getElementById('settings').hidePopover()")
 
     def press(self, css):
         """A click after which the page may be at work for long."""
@@ -152,8 +174,9 @@ class Browser:
         self.ready()
 
     def choose(self, css, value):
-        Select(self.find(css)).select_by_value(value)
-        self.ready()
+        with self.settings(css):
+            Select(self.find(css)).select_by_value(value)
+            self.ready()
 
     def saved(self, name):
         """The file of a download, once it is whole."""
@@ -166,6 +189,18 @@ class Browser:
 
     def shot(self, file):
         self.driver.save_screenshot(str(file))
+
+    def sees_as(self, deficiency):
+        """Shows the page as someone sees it who lacks something, as `deuteranopia`; or with `none`."""
+        self.driver.execute_cdp_cmd("Emulation.setEmulatedVisionDeficiency", {"type": deficiency})
+
+    def colours(self, selectors):
+        """The colour that is seen in each element, below its middle: there are no words."""
+        places = """return arguments[0].map(css => {
+            const {left, top, width, height} = document.querySelector(css).getBoundingClientRect();
+            return [left + width / 2, top + height * 0.82];
+        });"""
+        return colours_at(self.driver.get_screenshot_as_png(), self.run(places, selectors))
 
     def forget(self):
         """What the page has kept is not for the next one."""

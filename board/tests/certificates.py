@@ -46,3 +46,23 @@ or 11 12
 and 13 14
 full 15
 """
+# Black wins as he moves: behind a2 by lines that were semi entries before it.
+LIFTED = """hexcert 4
+size 2
+player black
+black
+white
+adj a2 a1
+adj a1 edge1
+adj a2 b1
+adj b1 edge1
+key 0 1
+key 2 3
+put a2
+lift 4
+lift 5
+or 7 8
+put
+move a2 9
+semi 11
+"""

@@ -31,6 +31,19 @@ class Ends(unittest.TestCase):
                 self.assertEqual(status, server.end(number))
                 until(lambda: not any(map(is_running, pids)), "its processes have ended")
 
+    def test_a_solver_ends_with_the_server(self):
+        for number in (signal.SIGTERM, signal.SIGKILL):
+            with self.subTest(signal=number):
+                server = Server()
+                name, before = server.session(), set(server.engines())
+                path, record = f"session/{name}/solve/1000000000", b"(;GM[11]SZ[9];B[a1])"
+                asking = threading.Thread(target=lambda: attempt_post(server, path, record))
+                asking.start()
+                (solver,) = until(lambda: set(server.engines()) - before, "the solver is at work")
+                server.end(number)
+                until(lambda: not is_running(solver), "it has ended")
+                asking.join(LIMIT_SECONDS)
+
     def test_while_it_thinks(self):
         server = Server("--playouts", "1000000", "--hsearch", "off")
         name, got = server.session(), []
@@ -183,6 +196,13 @@ def ran(*words):
     """A start of the server that is refused."""
     command = dying(ROOT / "bin/hexd-board", *words)
     return subprocess.run(command, stdin=subprocess.DEVNULL, capture_output=True, text=True, timeout=LIMIT_SECONDS)
+
+
+def attempt_post(server, path, body):
+    try:
+        return server.post(path, body)
+    except (OSError, http.client.HTTPException) as fault:
+        return str(fault)
 
 
 def attempt(server, name):

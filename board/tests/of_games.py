@@ -161,6 +161,60 @@ class Lasting(Pages):
         self.soon("5,c3,b3,e5,d4", self.link)
         self.soon(1, self.marks("#moves .side"))
 
+    def test_the_tree_of_moves(self):
+        """Side lines stand below the move in whose place they were played, folded until one is on them; nothing changes places."""
+        browser = self.start("5,c3,b3,d2,a1")
+        browser.click("#moves li:nth-child(2) .move")
+        for cell in ("e5", "d4", "e1"):
+            browser.cell(cell)
+        names = lambda of="button": [it.accessible_name for it in browser.all(f"#moves {of}")]  # noqa: E731
+        words = lambda colours, *cells: [f"{colour} {cell}" for colour, cell in zip(colours, cells)]  # noqa: E731
+        black, white = "Side line: Black d2", "Side line: White a1"
+        self.assertEqual(["Move 1: Black c3", "Move 2: White b3", black, *(
+            f"Move {number}: {it}" for number, it in enumerate(words(("Black", "White", "Black"), "e5", "d4", "e1"), 3)), white], names())
+        self.assertEqual([black], names(".side"))
+        self.assertEqual(3, len(browser.all("#moves .variation .move")))
+        self.shot("tree")
+        # Off it the side line is folded, and a button shows its other moves and hides them.
+        browser.click("#moves .side")
+        self.assertEqual(["Side line: Black e5"], names(".variation .side"))
+        self.assertEqual(["Show 2 moves more"], names(".fold"))
+        self.soon(0, self.marks("#moves .off"))
+        browser.click("#moves .fold")
+        self.soon(2, self.marks("#moves .off"))
+        self.assertEqual(["Hide 2 moves more"], names(".fold"))
+        browser.click("#moves .variation li:last-child .off")
+        self.soon("5,c3,b3,e5,d4,e1", self.link)
+        # A side line of a side line.
+        browser.click("#back")
+        browser.cell("b1")
+        self.soon(2, self.marks("#moves .variation"))
+        self.assertEqual("Move 5: Black b1", browser.find("#moves .variation .variation [aria-current]").accessible_name)
+
+    def test_comments_are_written(self):
+        browser = self.start("5,c3,b3")
+        browser.click("#write")
+        browser.keys("A comment ] of mine", Keys.ESCAPE)
+        self.soon("A comment ] of mine", self.words("#record .comment"))
+        self.assertFalse(browser.find("#comment").is_displayed())
+        browser.click("#back")
+        self.soon(0, self.marks("#record .comment"))
+        self.assertEqual(["Move 2: White b3"], [it.accessible_name for it in browser.all("#moves .commented")])
+        browser.reload()
+        browser.click("#end")
+        self.soon("A comment ] of mine", self.words("#record .comment"))
+        browser.click("#save")
+        self.assertIn(rb"W[b3]C[A comment \] of mine]", self.saved_record())
+        browser.click("#write")
+        # Keys are the box's.
+        browser.keys(Keys.HOME, "u", Keys.ARROW_LEFT)
+        browser.run("document.getElementById('comment').value = ''")
+        browser.keys(" ")
+        browser.click("#first")
+        browser.click("#end")
+        self.soon(0, self.marks("#record .comment"))
+        self.soon(["c3", "b3"], self.moves)
+
     def test_a_reload_keeps_what_hexd_said(self):
         browser = self.start("4,d1,b3,a1")
         browser.click("#moves li:nth-child(2) .move")
@@ -187,7 +241,8 @@ class Lasting(Pages):
         self.soon(before, looks)
         browser.click("#forth")
         browser.click("#moves .side")
-        self.soon(of_side_line, self.words("#words"))
+        # Now the move that led there is judged too.
+        self.soon_in(of_side_line, "#words")
         # What was kept of a proof is one: it is followed.
         browser.click("#back")
         browser.cell(browser.vertices("[data-vertex]:has(.chosen)")[0])
@@ -222,11 +277,12 @@ class Lasting(Pages):
         self.soon("5", self.link)
         browser.choose("#size", "4")
         browser.cell("a2")
-        browser.choose("#size", "6")
-        self.soon("6", self.link)
-        # A key on the box of sizes takes an empty game's place, and one before it is there still.
-        browser.keys(Keys.ARROW_DOWN)
-        self.soon("7", self.link)
+        with browser.settings("#size"):
+            browser.choose("#size", "6")
+            self.soon("6", self.link)
+            # A key on the box of sizes takes an empty game's place, and one before it is there still.
+            browser.keys(Keys.ARROW_DOWN)
+            self.soon("7", self.link)
         self.opened(b"(;GM[11]SZ[3];B[b2])")
         self.soon("3,b2", self.link)
         browser.back()
@@ -242,8 +298,7 @@ class Lasting(Pages):
         # A record that is opened, and moves from the box, take no game's place either.
         self.opened(b"(;GM[11]SZ[3];B[b2])")
         self.soon("3,b2", self.link)
-        browser.find("#link").clear()
-        browser.find("#link").send_keys("5,e5", Keys.ENTER)
+        self.enter("5,e5")
         self.soon("5,e5", self.link)
         browser.back()
         self.soon("3,b2", self.link)
@@ -309,7 +364,7 @@ class Lasting(Pages):
         """Each strength has the options of settings.json, also by the size of the board, and its process has them."""
         # Positions that no strength decides: what is proved is not searched.
         browser = self.start("8,a1,h8")
-        options = [(option.get_attribute("value"), option.text) for option in browser.all("#strength option")]
+        options = [(option.get_attribute("value"), option.get_property("textContent")) for option in browser.all("#strength option")]
         want = [("started", "as started (200 playouts)"), ("quick", "quick"), ("normal", "normal"), ("strong", "strong")]
         want += [(f"clock-{seconds}", f"{seconds} second{'s' * (seconds > 1)} a move") for seconds in (1, 5, 15, 60)]
         self.assertEqual(want, options)

@@ -1,12 +1,14 @@
 """What hands and screen readers have: names, what is announced, resigning, deleting a branch, and players of a tab alone."""
 
+from selenium.webdriver.common.keys import Keys
+
 from tests.pages import Pages
 
 # The names of the buttons whose words alone don't tell what they do.
 NAMES = {
     "first": "To the start", "back": "One move back", "forth": "One move on", "end": "To the end", "svg": "Save a picture as SVG",
     "png": "Save a picture as PNG", "copy": "Copy link", "copy-moves": "Copy moves", "copy-hexworld": "Copy a HexWorld link",
-    "cut": "Delete from this move on", "player-b": "Who plays Black", "player-w": "Who plays White",
+    "cut": "Delete from here", "player-b": "Who plays Black", "player-w": "Who plays White",
 }
 
 
@@ -27,8 +29,10 @@ class Hands(Pages):
 
     def test_names(self):
         browser = self.start("3,b2,a1")
+        browser.find("#set").click()
         for name, words in NAMES.items():
             self.assertEqual(words, browser.find(f"#{name}").accessible_name)
+        browser.keys(Keys.ESCAPE)
         self.assertEqual("Open link or moves", browser.find("#link-form [type=submit]").accessible_name)
         self.assertEqual(["Move 1: Black b2", "Move 2: White a1"], [it.accessible_name for it in browser.all("#moves .move")])
         for button in browser.all("button"):
@@ -82,12 +86,12 @@ class Hands(Pages):
         browser.cell("d4")
         self.soon("5,c3,b3,e5,d4", self.link)
         self.assertFalse(browser.find("#restore").is_displayed())
-        browser.click("#moves li:nth-child(3) .move")
+        browser.click("#moves [aria-label='Move 3: Black e5']")
         browser.click("#cut")
         self.soon("Black e5 and 1 move after it are deleted; 'Bring back' undoes that.", self.words("#said"))
         self.soon("5,c3,b3,d2,a1,@2", self.link)
         self.soon(0, self.marks("#moves .side"))
-        self.soon("Bring back Black e5", self.words("#restore"))
+        self.soon("Bring back e5", self.words("#restore"))
         # What was deleted isn't in the record any more, and what is played in its place stays beside it.
         browser.click("#save")
         self.assertNotIn(b"e5", self.saved_record())
@@ -107,6 +111,24 @@ class Hands(Pages):
             browser.click("#restore")
         self.soon("5,c3,b3,e5,d4,@3", self.link)
         browser.click("#new")
+        self.assertFalse(browser.find("#restore").is_displayed())
+
+    def test_what_was_deleted_lasts_over_a_reload(self):
+        """Also a branch out of a branch, with what hexd said there; and it comes back in the order in which it went."""
+        browser = self.start("5,c3,b3,d2,a1")
+        browser.click("#hint")
+        said = browser.text("#words")
+        for _ in range(3):
+            browser.click("#cut")
+        self.soon("5,c3", self.link)
+        browser.cell("e5")
+        browser.reload()
+        self.soon("Bring back b3", self.words("#restore"))
+        for link in ("5,c3,b3,@2", "5,c3,b3,d2,@3", "5,c3,b3,d2,a1"):
+            browser.click("#restore")
+            self.soon(link.removesuffix(f",@{link.count(',') - 1}"), lambda: self.link().removesuffix(f",@{len(self.moves())}"))
+        self.assertEqual(said, browser.text("#words"))
+        self.soon(1, self.marks("#moves .side"))
         self.assertFalse(browser.find("#restore").is_displayed())
 
     def test_players_of_a_tab(self):

@@ -1,9 +1,8 @@
 """Records, links, copies and pictures."""
 
 import lzma
+import re
 from datetime import date
-
-from selenium.webdriver.common.keys import Keys
 
 from tests import table
 from tests.certificates import FULL, SEMI
@@ -37,9 +36,23 @@ class Records(Pages):
         for given, text, notes in table.READ:
             with self.subTest(given=given[:80]):
                 self.assertEqual([f"(;FF[4]GM[11]{text}", notes], browser.run(READ, list(given)))
-        for given, why in table.REFUSED:
+        for given, why in (*table.REFUSED, *table.QUOTED):
             with self.subTest(given=given[:80]):
                 self.assertEqual(why, browser.run(READ, list(given)))
+
+    def test_what_is_quoted_is_a_line(self):
+        """Of names, results and moves that others wrote the page shows one printable line each, and of many changes some."""
+        browser = self.start("3")
+        name = "x\u202e\n\n" + 100 * "y"
+        self.opened(f"(;SZ[5]PB[{name}]GN[{name}]RE[{name}];B[a1])".encode())
+        line = "x???" + 56 * "y"
+        self.soon([f"Black: {line}", line, f"Result: {line}"], lambda: browser.text("#record").split("\n"))
+        self.opened(b"(;SZ[5];B[a1]" + 1_000 * b";W[]" + b")")
+        self.soon_in("Of 980 changes more nothing is said.", "#said")
+        self.assertEqual(20, browser.text("#said").count("is a pass of White's"))
+        for text, quoted in ((f"5 a1 {100 * 'z'}", 60 * "z"), ("5 a1 b\u202e2", "b?2")):
+            browser.run("play.openText(arguments[0])", text)
+            self.soon_in(f"'{quoted}' is no move", "#said")
 
     def test_a_saved_game(self):
         """The line that one is on is the first variation; who played, when, and how it ended."""
@@ -153,14 +166,15 @@ class Records(Pages):
         for _ in range(2):
             browser.click("#save")
             record = self.saved_record().decode()
-            self.assertEqual(5, record.count("hexd: With "))
+            # Before what was found of a position stands how its move is judged.
+            self.assertEqual(5, len(re.findall(r"hexd: [^]]*With (?:Black|White) to move: ", record)))
             self.assertIn("C[Begins\n\nhexd: With Black to move: ", record)
             visits = r"Visits, and wins of them: [a-e][1-5] \d+ \(\d+ %\)"
             self.assertRegex(record, rf"C\[A \\\] in it\n\nhexd: With White to move: [^]]*{visits}")
             # Who opens it sees them, and they don't come twice when it is saved again.
             self.opened(record.encode())
             browser.ready()
-            self.soon_in("hexd: With ", "#record .comment")
+            self.soon_in("With White to move: ", "#record .comment")
             browser.click("#analyse")
             browser.click("#moves .side")
             browser.click("#hint")
@@ -234,13 +248,6 @@ class Records(Pages):
             browser.click("#end")
         self.soon(2, lambda: len(self.moves()))
 
-    def enter(self, text):
-        """Puts a text into the box for links, and Enter."""
-        field = self.browser.find("#link")
-        field.clear()
-        field.send_keys(text, Keys.ENTER)
-        self.browser.ready()
-
     def test_what_the_box_takes(self):
         browser = self.start("6,a1")
         for text, link in (
@@ -251,12 +258,47 @@ class Records(Pages):
             ("11 a3b4c5", "11,a3,b4,c5"),
             ("https://hexworld.org/board/#9c1,a3:sf6", "9,a3,swap,f6"),
             ("https://hexworld.org/board/#9,a3b4,c5d6", "9,a3,b4,c5,d6,@2"),
+            ("https://hexworld.org/board/#9,a3:pb4,c5:p", "9,a3,b-b4,c5,@2"),
+            ("https://hexworld.org/board/#9,a3b4:rb", "9,a3,b4"),
             ("7,a3,swap,b2,@1", "7,a3,swap,b2,@1"),
             ("(;SZ[4];B[b2];W[c3])", "4,b2,c3"),
         ):
             with self.subTest(text=text):
                 self.enter(text)
                 self.soon(link, self.link)
+
+    def test_passes_and_ends_of_hexworld(self):
+        """A pass is left out, and a resignation ends the game; both are told, and a copied link has the end."""
+        browser = self.start("6")
+        link = "https://hexworld.org/board/#9,a3b4c5:rw"
+        for text, state, said in (
+            (link, "Black has won: White resigns.", "White resigns at move 4."),
+            ("https://hexworld.org/board/#9,a3,b4:fb", "Your turn (White)", "Black resigns at move 3."),
+            ("https://hexworld.org/board/#9,:pa3", "Your turn (Black)",
+             "Move 1 is a pass of Black's, which Hex hasn't: it is left out."),
+        ):
+            with self.subTest(text=text):
+                self.enter(text)
+                self.soon(state, self.words("#state"))
+                self.soon(said, self.words("#said"))
+        self.enter(link)
+        browser.click("#copy-hexworld")
+        self.soon(link, lambda: browser.find("#link").get_attribute("value"))
+
+    def test_stones_that_are_set_again_and_again(self):
+        """What a record costs grows with its length alone."""
+        browser = self.start("3")
+        script = """
+            let calls = 0;
+            const plain = cellOf;
+            window.cellOf = (...given) => { calls++; return plain(...given); };
+            const [stones, nodes, times] = arguments;
+            readRecord(`(;SZ[9]AB${stones.repeat(times)};${nodes.repeat(times)};B[a1])`);
+            window.cellOf = plain;
+            return calls;"""
+        for stones, nodes, most in (("[a1]", "AE[b2]", 10), ("[c3]", ";AB[b2];AE[b2]", 10), ("[a1]", "AW[c3]AB[c3][d4]", 15)):
+            few, many = (browser.run(script, stones, nodes, times) for times in (100, 200))
+            self.assertTrue(0 < many - few <= 100 * most, (nodes, few, many))
 
     def test_a_record_of_another_program_in_the_box(self):
         self.start("6")

@@ -1,5 +1,7 @@
 """Reports: of a whole game, opened in a browser; and why there is none."""
 
+import json
+import lzma
 import os
 import re
 import subprocess
@@ -10,6 +12,8 @@ from pathlib import Path
 
 from tests.certificates import FULL, SEMI
 from tests.support import LIMIT_SECONDS, ROOT, SMALL, dying
+
+import hexd
 
 # White has a certified win before move 4, Black after it, and White again after move 5.
 GAME = "(;FF[4]GM[11]SZ[5]PB[<b>&]C[a ';B[a1\\]'];B[c2];W[c3];B[d3];W[a1];B[a2];W[c4];B[d4];W[d2];B[b3];W[b4];B[a5];W[a4])"
@@ -29,6 +33,13 @@ sys.path.insert(0, sys.argv.pop(1))
 import report
 report.SOLVE_SECONDS = float(sys.argv.pop(1))
 sys.exit(report.main())"""
+
+
+# The kinds of what JSON has of a position.
+NAME = (str, type(None))
+JSON_KINDS = {"black": list, "white": list, "to_move": NAME, "winner": NAME, "solved": NAME, "best": NAME, "plan": NAME,
+              "allowed": list, "threats": list, "search": dict, "certificate": NAME, "checked": NAME, "may_swap": bool,
+              "played": (dict, type(None))}
 
 
 def reported(*words, given=None, seconds=None):
@@ -58,11 +69,61 @@ class Reports(unittest.TestCase):
         self.assertNotIn("http://", run.stdout.replace("http://www.w3.org/2000/svg", ""))
         self.assertIn("looked at by hexd with 200 playouts a move, weight 0, 1 worker", run.stdout)
 
+    def test_json(self):
+        """One line with what the page shows, of which keys and kinds stay."""
+        run = reported(*SMALL, "--json", "-", given="(;GM[11]SZ[2];B[a2];W[a1])")
+        self.assertEqual(0, run.returncode, run.stderr)
+        found = json.loads(run.stdout)
+        positions = found["positions"]
+        for position in positions:
+            self.assertEqual([*JSON_KINDS], [*position])
+            self.assertTrue(all(isinstance(position[key], kind) for key, kind in JSON_KINDS.items()), position)
+        first, lost, last = positions
+        self.assertEqual(run.stdout, json.dumps(found, separators=(",", ":")) + "\n")
+        head = {key: value for key, value in found.items() if key != "positions"}
+        self.assertEqual({"name": "Standard input", "size": 2, "notes": [], "opening": None}, head)
+        certificates = [position["certificate"] for position in positions]
+        self.assertEqual(["yes semi", "yes semi"], [hexd.check(text.encode()) for text in certificates if text])
+        stones = {"black": ["a2"], "white": []}
+        search = lost["search"]
+        self.assertEqual(["a1", "b1", "b2"], [*search])
+        self.assertEqual([int] * 6, [type(number) for counts in search.values() for number in counts.values()])
+        self.assertEqual({**stones, "to_move": "white", "winner": None, "solved": "black", "best": lost["best"], "plan": "lost",
+                          "allowed": ["a1", "b1", "b2"], "threats": [["a1"], ["b1"]], "search": search, "certificate": None,
+                          "checked": None, "may_swap": True, "played": {"colour": "white", "move": "a1"}}, lost)
+        self.assertEqual({"black": ["a2"], "white": ["a1"], "to_move": "black", "winner": None, "solved": "black", "best": "b1",
+                          "plan": "win", "allowed": ["b1"], "threats": [], "search": {}, "certificate": certificates[2],
+                          "checked": "yes semi", "may_swap": False, "played": None}, last)
+        self.assertEqual(("black", "win", True), (first["to_move"], first["plan"], first["may_swap"]))
+
+    def test_json_of_a_game_that_is_over_and_of_a_certificate(self):
+        run = reported(*SMALL, "--json", "-", given="(;GM[11]SZ[1];B[a1])")
+        [_, over] = json.loads(run.stdout)["positions"]
+        self.assertEqual((None, "black", None, None, [], False),
+                         tuple(over[key] for key in ("to_move", "winner", "best", "plan", "allowed", "may_swap")))
+        file = self.folder / "c4.cert"
+        file.write_bytes(SEMI)
+        run = reported("--json", file)
+        want = {"name": "c4.cert", "certificate": SEMI.decode(), "checked": "yes semi"}
+        self.assertEqual((0, json.dumps(want, separators=(",", ":")) + "\n"), (run.returncode, run.stdout))
+
     def test_standard_input(self):
         run = reported(*SMALL, "-", given="\ufefftext (;SZ[3];B[B2];W[swap];B[cc];W[])")
         self.assertEqual(0, run.returncode, run.stderr)
         self.assertIn("<h1>Standard input</h1>", run.stdout)
         self.assertIn("<p>Move 4 is a pass of White&#x27;s, which Hex hasn&#x27;t: it is left out.</p>", run.stdout)
+
+    def test_names_that_are_no_text(self):
+        """Of a file in the title of a page, and in what is said of it."""
+        name = b"a\xff\n\x1b <game>.sgf"
+        file = os.fsencode(self.folder) + b"/" + name
+        Path(os.fsdecode(file)).write_text("(;SZ[1])")
+        run = reported(*SMALL, os.fsdecode(file))
+        self.assertEqual(0, run.returncode, run.stderr)
+        self.assertIn("<h1>a??? &lt;game&gt;.sgf</h1>", run.stdout)
+        run = reported(os.fsdecode(file + b"x"))
+        said = f"hexd-report: {self.folder}/a??? <game>.sgfx: No such file or directory\n"
+        self.assertEqual((1, "", said), (run.returncode, run.stdout, run.stderr))
 
     def test_what_it_searches_with(self):
         workers = min(4, len(os.sched_getaffinity(0)))
@@ -88,10 +149,23 @@ class Reports(unittest.TestCase):
         for wrong, why in (
             (SEMI.replace(b"white b3", b"white b4"), "hexd check refuses it: no 4 2"),
             (SEMI[:100], "hexd check refuses it: not a certificate at line 10"),
-            (b"hexcert 4\n", "hexd check refuses it: not a certificate at line 1"),
+            (b"hexcert 5\n", "hexd check refuses it: not a certificate at line 1"),
         ):
             run = self.report(wrong.decode(), "wrong.cert")
             self.assertEqual((1, "", f"hexd-report: {self.folder / 'wrong.cert'}: {why}\n"), (run.returncode, run.stdout, run.stderr))
+
+    def test_a_packed_certificate(self):
+        packed = lzma.compress(SEMI)
+        run = subprocess.run([ROOT / "bin/hexd-report", "-"], input=packed, capture_output=True, timeout=LIMIT_SECONDS)
+        self.assertEqual((0, b""), (run.returncode, run.stderr))
+        self.assertIn(b"</html>", run.stdout)
+        for wrong, why in (
+            (packed[:40] + b"?" + packed[41:], "it is packed by xz, and damaged: "),
+            (lzma.compress(b"a text"), "it is no record of a game"),
+        ):
+            run = subprocess.run([ROOT / "bin/hexd-report", "-"], input=wrong, capture_output=True, timeout=LIMIT_SECONDS)
+            self.assertEqual((1, b""), (run.returncode, run.stdout))
+            self.assertTrue(run.stderr.decode().startswith(f"hexd-report: -: {why}"), run.stderr)
 
     def test_what_is_refused(self):
         missing = reported(self.folder / "none.sgf")
@@ -284,6 +358,7 @@ def in_browser(shots):
             self.assertIn("This move gives the win away.", self.to(3))
 
         test_a_report_stands_alone = test_what_is_refused = test_standard_input = test_what_it_searches_with = None
-        test_a_certificate = None
+        test_a_certificate = test_names_that_are_no_text = test_json = None
+        test_json_of_a_game_that_is_over_and_of_a_certificate = None
 
     return Opened

@@ -2,6 +2,7 @@
 
 import contextlib
 import errno
+import functools
 import http.client
 import io
 import json
@@ -16,12 +17,15 @@ import tempfile
 import threading
 import time
 import unittest
+import unittest.mock
 from pathlib import Path
 
 from tests.support import LIMIT_SECONDS, ROOT, Server, is_running, until
 
+import connections
 import handler
 import hexd
+import limits
 import sessions
 import settings
 import troubles
@@ -191,7 +195,7 @@ class Requests(unittest.TestCase):
 
     def test_settings(self):
         status, text = self.server.request("GET", "settings")
-        want = {"table": settings.TABLE, "started": {"playouts": 200, "weight": 0}, "workers": 1}
+        want = {"table": settings.TABLE, "guessed": settings.GUESSED, "started": {"playouts": 200, "weight": 0}, "workers": 1}
         self.assertEqual((200, want), (status, json.loads(text)))
         wrong = ["playouts=0", "x", "playouts=1000001", "look=-1", "solve=1e3", "weight", "workers=2", "look=1 look=1", "--look=1"]
         for options in wrong:
@@ -227,6 +231,89 @@ class Requests(unittest.TestCase):
         self.assertIn(got[0][0], (410, 500))
         self.assertEqual(set(), set(self.server.engines()) - before)
 
+    def solve(self, name, record=b"(;GM[11]SZ[9];B[a1])"):
+        """Asks who wins a position, for longer than any test takes; and gives the connection, before it is answered."""
+        connection = socket.create_connection(("127.0.0.1", self.server.port), LIMIT_SECONDS)
+        head = f"POST /{self.server.token}/session/{name}/solve/1000000000 HTTP/1.1\r\nHost: 127.0.0.1:{self.server.port}\r\n"
+        connection.sendall(f"{head}Content-Length: {len(record)}\r\n\r\n".encode() + record)
+        self.addCleanup(connection.close)
+        return connection
+
+    def solvers(self, count, before):
+        """So many solvers beside the processes that there were, and no more."""
+
+        def found():
+            others = set(self.server.engines()) - before
+            return [others] if len(others) == count else None
+
+        return until(found, f"{count} solvers are at work")[0]
+
+    def test_a_solver_ends_with_its_session(self):
+        """Also if another one of the session has ended before."""
+        name = self.session()
+        before = set(self.server.engines())
+        self.solve(name)
+        solvers = self.solvers(1, before)
+        self.assertEqual(200, self.server.post(f"session/{name}/solve/100000", b"(;GM[11]SZ[3];B[b2])")[0])
+        self.server.request("DELETE", f"session/{name}")
+        until(lambda: not any(map(is_running, solvers)), "the solver has ended")
+
+    def test_a_solver_ends_with_its_request(self):
+        name = self.session()
+        before = set(self.server.engines())
+        connections = [self.solve(name) for _ in range(3)]
+        self.solvers(3, before)
+        for connection in connections:
+            connection.close()
+        self.solvers(0, before)
+        self.assertEqual("= hexd", self.server.ask(name, "name"))
+
+    def test_solvers_are_few(self):
+        name = self.session()
+        before = set(self.server.engines())
+        connections = [self.solve(name) for _ in range(sessions.MOST_SOLVERS)]
+        self.solvers(sessions.MOST_SOLVERS, before)
+        self.refused(429, self.server.post(f"session/{name}/solve/1", b"(;GM[11]SZ[3])"))
+        connections[0].close()
+        self.solvers(sessions.MOST_SOLVERS - 1, before)
+        # A process is gone a moment before the server has counted it out.
+        asked = functools.partial(self.server.post, f"session/{name}/solve/100000", b"(;GM[11]SZ[3])")
+        until(lambda: asked()[0] == 200, "there is room for one solver more")
+
+    def test_processes_have_limits(self):
+        """Of memory and of the processor's time, as they fit what is asked."""
+        name = self.session()
+        (engine,) = self.server.engines()
+        self.solve(name)
+        (solver,) = self.solvers(1, {engine})
+        for process, memory, seconds in (
+            (engine, limits.SESSION_BYTES + limits.WORKER_BYTES, limits.SESSION_SECONDS),
+            (solver, limits.MOST_BYTES, limits.MOST_SECONDS),
+        ):
+            self.assertEqual((memory, memory), resource.prlimit(process, resource.RLIMIT_AS))
+            self.assertEqual((seconds, seconds + 1), resource.prlimit(process, resource.RLIMIT_CPU))
+
+    def test_a_broken_head_is_no_request(self):
+        """One that breaks off, or whose lengths may stand in what can't be read, makes nothing; nor is its body a request."""
+        own = f"127.0.0.1:{self.server.port}"
+        inner = f"GET /{self.server.token}/settings HTTP/1.1\r\nHost: {own}\r\nConnection: close\r\n\r\n".encode()
+        head = f"POST /{self.server.token}/session HTTP/1.1\r\nHost: {own}\r\n"
+        before = self.server.engines()
+        for line in (f"Content-Length : {len(inner)}", f"no header\r\nContent-Length: {len(inner)}", f"\u00e9: x\r\nContent-Length: {len(inner)}"):
+            with self.subTest(line=line):
+                self.assertEqual([400], self.raw(f"{head}{line}\r\n\r\n".encode("latin-1"), inner))
+        for cut in (head, head[:-2], head + "Content-Length: 0", head[:-6], head.split("\r")[0]):
+            with self.subTest(cut=cut), socket.create_connection(("127.0.0.1", self.server.port), LIMIT_SECONDS) as connection:
+                connection.sendall(cut.encode())
+                connection.shutdown(socket.SHUT_WR)
+                self.assertRegex(connection.makefile("rb").read(), b"^HTTP/1.1 400 ")
+        # A body that breaks off.
+        with socket.create_connection(("127.0.0.1", self.server.port), LIMIT_SECONDS) as connection:
+            connection.sendall(f"{head}Content-Length: 9\r\n\r\nlook=1".encode())
+            connection.shutdown(socket.SHUT_WR)
+            self.assertRegex(connection.makefile("rb").read(), b"^HTTP/1.1 400 ")
+        self.assertEqual(before, self.server.engines())
+
     def test_openings_of_a_size(self):
         status, text = self.server.request("GET", "openings/3")
         found = json.loads(text)
@@ -234,6 +321,17 @@ class Requests(unittest.TestCase):
         self.assertEqual((200, '"white"'), self.server.request("GET", "openings/3-c3"))
         self.assertEqual((200, "{}"), self.server.request("GET", "openings/11"))
         for path in ("openings/12", "openings/0", "openings/", "openings/3-"):
+            self.refused(404, self.server.request("GET", path))
+
+    def test_certificates_of_openings(self):
+        """That of an opening's file, and the turned one of the opposite cell; a second process accepts both."""
+        of_file = lzma.decompress((ROOT / "openings" / "3-a1.cert.xz").read_bytes()).decode()
+        status, own = self.server.request("GET", "openings/3-a1/certificate")
+        self.assertEqual((200, of_file), (status, own + "\n"))
+        status, opposite = self.server.request("GET", "openings/3-c3/certificate")
+        self.assertEqual((200, "black c3"), (status, opposite.splitlines()[3]))
+        self.assertEqual("yes semi", hexd.check(f"{opposite}\n".encode()))
+        for path in ("openings/11-a1/certificate", "openings/3/certificate", "openings/3-d1/certificate", "openings/3-a1/x"):
             self.refused(404, self.server.request("GET", path))
 
     def test_certificates(self):
@@ -301,6 +399,80 @@ class Requests(unittest.TestCase):
         return held if held == self.server.held() else None
 
 
+class Slow(unittest.TestCase):
+    """Clients that keep connections open and send little. Any user of the machine can be one, without the token."""
+
+    def served(self, server):
+        """Has a server of this process serve until the test ends."""
+        threading.Thread(target=server.serve_forever, daemon=True).start()
+        self.addCleanup(server.server_close)
+        self.addCleanup(server.shutdown)
+        return ("127.0.0.1", server.server_port)
+
+    def drip(self, place, count):
+        """Opens so many connections, each of which begins a request and sends a byte now and then; they are opened anew."""
+        open_, ended = [], threading.Event()
+
+        def go_on():
+            while not ended.wait(0.5):
+                for at, connection in enumerate(open_):
+                    try:
+                        connection.send(b"x")
+                    except OSError:
+                        connection.close()
+                        with contextlib.suppress(OSError):
+                            open_[at] = socket.create_connection(place, LIMIT_SECONDS)
+
+        for _ in range(count):
+            open_.append(socket.create_connection(place, LIMIT_SECONDS))
+        dripping = threading.Thread(target=go_on, daemon=True)
+        dripping.start()
+        self.addCleanup(lambda: (ended.set(), dripping.join(LIMIT_SECONDS), [connection.close() for connection in open_]))
+
+    def test_the_page_is_served_beside_them(self):
+        """Also if the server may have fewer files than there are connections."""
+        with Server(before=("prlimit", "--nofile=100")) as server:
+            self.drip(("127.0.0.1", server.port), 300)
+            for _ in range(5):
+                self.assertEqual(200, server.request("GET", "")[0])
+            name = server.session()
+            self.assertEqual("= hexd", server.ask(name, "name"))
+
+    def test_a_head_has_a_time(self):
+        """However often a byte of it comes."""
+        with unittest.mock.patch.object(handler, "HEAD_SECONDS", 1):
+            with socket.create_connection(self.served(handler.Server("127.0.0.1", 0, None, None)), LIMIT_SECONDS) as slow:
+                slow.sendall(b"GET / HTTP/1.1\r\nx: ")
+                slow.settimeout(0.2)
+                until(lambda: self.is_closed(slow), "the connection is closed")
+
+    def is_closed(self, connection):
+        try:
+            connection.send(b"x")
+            return connection.recv(100) == b""
+        except TimeoutError:
+            return False
+        except ConnectionError:
+            return True
+
+    def test_which_one_gives_way(self):
+        pairs = [socket.socketpair() for _ in range(4)]
+        for pair in pairs:
+            for connection in pair:
+                self.addCleanup(connection.close)
+        ours, theirs = zip(*pairs)
+        table = connections.Connections(2)
+        self.assertTrue(table.begin(ours[0]) and table.begin(ours[1]))
+        table.set_waiting(ours[0], False)
+        # The first one is at work, so the second one goes.
+        self.assertTrue(table.begin(ours[2]))
+        self.assertEqual(b"", theirs[1].recv(1))
+        table.set_waiting(ours[2], False)
+        self.assertFalse(table.begin(ours[3]))
+        table.end(ours[0])
+        self.assertTrue(table.begin(ours[3]))
+
+
 class Troubles(unittest.TestCase):
     """What the system refuses the server."""
 
@@ -325,7 +497,7 @@ class Troubles(unittest.TestCase):
             name = table.make()
             table.program = program
             self.assertRegex(self.refused(table, lambda table: table.check(name, b"")), gone)
-            self.assertRegex(self.refused(table, lambda table: table.solve(name, b"", "1")), gone)
+            self.assertRegex(self.refused(table, lambda table: table.solve(name, b"", 1)), gone)
             table.close()
 
     def test_a_full_disk_says_what_to_do(self):
@@ -373,4 +545,6 @@ class Shelves(unittest.TestCase):
             # c3 is opposite to a1.
             self.assertEqual({"a1": "white", "c3": "white"}, {vertex: winner for vertex, winner in found.items() if winner})
             self.assertIsNone(openings.winner(4, "a1"))
+            given = {vertex: openings.certificate(3, vertex) for vertex in ("a1", "a2")}
+            self.assertEqual({"a1": certificate, "a2": None}, given)
             self.assertIsNone(Openings(hexd.PROGRAM, Path(folder) / "none").winner(3, "a1"))

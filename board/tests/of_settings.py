@@ -3,12 +3,16 @@
 import csv
 import unittest
 
+import openings
 import settings
+from openings import guessed_share
 from tests.support import ROOT
 
 SIZES = range(1, settings.LARGEST + 1)
 # Of these sizes each opening is solved.
 SOLVED = "3456"
+# Of these nothing is proved.
+GUESSED = ["8", "9", "10", "11"]
 
 
 def rows_of(name):
@@ -42,3 +46,17 @@ class Settings(unittest.TestCase):
             self.assertIn((last, most, f"{size}-{even[size]}"), found)
         for size, cell in even.items():
             self.assertTrue(ord(cell[0]) - ord("a") < int(size) and 1 <= int(cell[1:]) <= int(size), cell)
+
+    def test_guesses(self):
+        """Each first stone of a half of each board on which nothing is proved, in thousandths; the other half is its like."""
+        guessed = settings.GUESSED
+        self.assertEqual(GUESSED, list(guessed["black"]))
+        for size, found in guessed["black"].items():
+            names = [f"{chr(ord('a') + column)}{row + 1}" for row in range(int(size)) for column in range(int(size))]
+            self.assertEqual(names[: (len(names) + 1) // 2], list(found))
+            self.assertTrue(all(0 < worth < 1_000 for worth in found.values()), size)
+            self.assertEqual(found["b1"] / 1_000, guessed_share(int(size), openings.turned_cell("b1", int(size))))
+        self.assertIsNone(guessed_share(7, "a1"))
+        given = {name: value for name, value in guessed["options"].items() if name != "seed"}
+        self.assertEqual(given, settings.asked_of(" ".join(f"{name}={value}" for name, value in given.items())))
+        self.assertRegex(guessed["program"], "^[0-9a-f]{12}$")

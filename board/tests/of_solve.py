@@ -1,5 +1,7 @@
 """bin/hexd-solve as a user runs it: what it writes, what it says meanwhile, and how it ends."""
 
+import json
+import os
 import re
 import signal
 import subprocess
@@ -10,6 +12,8 @@ from pathlib import Path
 from tests.support import LIMIT_SECONDS, ROOT, dying, first_line, is_running, until
 
 import hexd
+import limits
+import objects
 
 SOLVE = ROOT / "bin/hexd-solve"
 # Larger than what it can solve here.
@@ -41,6 +45,34 @@ class Solving(unittest.TestCase):
             self.assertEqual((0, "won white"), (run.returncode, run.stdout.partition("\n")[0]))
             self.assertIn("hexd-solve: White resigns at move 4.\n", run.stderr)
 
+    def test_json(self):
+        """The same as one line, of which keys and kinds stay."""
+        kinds = {"answer": str, "winner": (str, type(None)), "budget": int, "lines": (int, type(None)),
+                 "certificate": (str, type(None)), "stopped": bool}
+        for record, words, answer, winner, budget in (
+            ("(;GM[11]SZ[4];B[b2])", [], "won", "white", 100),
+            ("(;GM[11]SZ[1];B[a1])", [], "over", "black", 100),
+            ("(;GM[11]SZ[5])", ["--hsearch=off", "--budget=2"], "unknown", None, 2),
+        ):
+            text = hexd.Solver(budget, words=[word for word in words if "hsearch" in word]).answer(record.encode())
+            want = dict(zip(kinds, (answer, winner, budget, None, text.partition("\n")[2] or None, False)))
+            run = ran("--json", *words, given=record)
+            self.assertEqual((0, json.dumps(want, separators=(",", ":")) + "\n"), (run.returncode, run.stdout), run.stderr)
+            found = json.loads(run.stdout)
+            self.assertTrue(all(isinstance(found[key], kind) for key, kind in kinds.items()), found)
+            self.assertEqual(answer == "won", bool(found["certificate"]))
+
+    def test_json_of_what_is_rare(self):
+        """No game, a certificate that is too long, and a search that is stopped before anything is known."""
+        for said, want in (
+            ("not a game\n", ("not a game", None, None)),
+            ("too long black 18446744073709551615\n", ("too long", "black", 2**64 - 1)),
+            ("", (None, None, None)),
+        ):
+            found = objects.solved(said, None, not said)
+            self.assertEqual(want, (found["answer"], found["winner"], found["lines"]))
+            self.assertEqual((None, None, not said), (found["budget"], found["certificate"], found["stopped"]))
+
     def test_what_it_refuses(self):
         for words, given, status, said in (
             (["none.sgf"], "", 1, "hexd-solve: none.sgf: No such file or directory\n"),
@@ -58,6 +90,25 @@ class Solving(unittest.TestCase):
             run = subprocess.run([SOLVE], input=b"(;SZ[2])", stdout=full, stderr=subprocess.PIPE, timeout=LIMIT_SECONDS)
         self.assertEqual(1, run.returncode)
         self.assertTrue(run.stderr.endswith(b"hexd-solve: standard output: No space left on device\n"))
+
+    def test_a_reader_that_has_gone(self):
+        """It ends as others in a pipe do, and says nothing of it."""
+        reader, writer = os.pipe()
+        os.close(reader)
+        with open(writer, "wb") as gone:
+            run = subprocess.run([SOLVE], input=b"(;SZ[2])", stdout=gone, stderr=subprocess.PIPE, timeout=LIMIT_SECONDS)
+        self.assertEqual(-signal.SIGPIPE, run.returncode)
+        self.assertRegex(run.stderr.decode(), r"^hexd-solve: won black, with up to 100 positions, after \d+\.\d s\n$")
+
+    def test_what_ends_by_a_limit_says_so(self):
+        solve = ["solve", "--hsearch", "off", "--budget", "1000000000"]
+        for words, given, memory, seconds, said in (
+            (solve, EMPTY.encode(), limits.GIB, 1, "hexd was ended by signal 24 (CPU time limit exceeded)"),
+            (["check"], bytes(limits.GIB // 16), limits.GIB // 32, 60, "hexd ended with status 5 (hexd: out of memory)"),
+        ):
+            with self.assertRaises(hexd.EngineEnded) as ended:
+                limits.Held(hexd.PROGRAM, words, memory, seconds).answer(given)
+            self.assertEqual(said, str(ended.exception))
 
     def started(self, *words):
         pipe = subprocess.PIPE

@@ -5,6 +5,8 @@ import unittest
 from datetime import date
 from pathlib import Path
 
+from selenium.webdriver.common.keys import Keys
+
 from tests.browser import WIDE, Browser
 from tests.support import LIMIT_SECONDS, Server
 
@@ -70,6 +72,11 @@ class Pages(unittest.TestCase):
 
     def carrier(self):
         return set(self.browser.vertices("[data-vertex]:has(.carrier)"))
+
+    def enter(self, text):
+        """Puts a text into the box for links, and Enter. The focus stays in it, or the page would write its own link there."""
+        self.browser.find("#link").send_keys(Keys.CONTROL, "a", Keys.NULL, text, Keys.ENTER)
+        self.browser.ready()
 
     def opened(self, record, name="opened.sgf"):
         """Opens a record's bytes by the page's own button."""

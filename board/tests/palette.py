@@ -1,4 +1,4 @@
-"""A picture with few colours: a PNG of 8 bits a channel as one of a palette, which is a third of its size."""
+"""Pictures (PNG of 8 bits a channel): one with few colours, which is a third of its size, and how far colours are apart."""
 
 import struct
 import zlib
@@ -40,15 +40,40 @@ def rows(data, width, height, channels):
         above = row
 
 
-def small(png):
-    """The picture in its most frequent colours, each other colour as the nearest of them."""
+def pixels_of(png):
+    """The rows of a picture, each pixel as three bytes."""
     parts = list(chunks(png))
     width, height, _, kind = struct.unpack(">IIBB", parts[0][1][:10])
     channels = {2: 3, 6: 4}[kind]
     data = zlib.decompress(b"".join(data for name, data in parts if name == b"IDAT"))
-    pixels = [
-        [bytes(row[at : at + 3]) for at in range(0, len(row), channels)] for row in rows(data, width, height, channels)
-    ]
+    return [[bytes(row[at : at + 3]) for at in range(0, len(row), channels)] for row in rows(data, width, height, channels)]
+
+
+def colours_at(png, places):
+    """The pixels of a picture at these places."""
+    pixels = pixels_of(png)
+    return [pixels[round(y)][round(x)] for x, y in places]
+
+
+def lab(colour):
+    """A colour in CIELAB, whose distances are about those that one sees."""
+    linear = [part / 12.92 if (part := byte / 255) <= 0.04045 else ((part + 0.055) / 1.055) ** 2.4 for byte in colour]
+    to_xyz = ((0.4124, 0.3576, 0.1805), (0.2126, 0.7152, 0.0722), (0.0193, 0.1192, 0.9505))
+    white = (0.9505, 1.0, 1.089)
+    xyz = [sum(a * b for a, b in zip(row, linear)) / most for row, most in zip(to_xyz, white)]
+    x, y, z = (part ** (1 / 3) if part > 0.008856 else 7.787 * part + 16 / 116 for part in xyz)
+    return 116 * y - 16, 500 * (x - y), 200 * (y - z)
+
+
+def difference(one, two):
+    """How far two colours are apart: some 2 is just seen side by side, and 10 at a glance."""
+    return sum((a - b) ** 2 for a, b in zip(lab(one), lab(two))) ** 0.5
+
+
+def small(png):
+    """The picture in its most frequent colours, each other colour as the nearest of them."""
+    pixels = pixels_of(png)
+    width, height = len(pixels[0]), len(pixels)
     # Counted where the pixel before is the same: so the mixtures along edges don't push out the colours of small marks.
     flat = Counter(pixel for row in pixels for before, pixel in zip(row, row[1:]) if before == pixel)
     palette = [colour for colour, _ in flat.most_common(COLOURS)]

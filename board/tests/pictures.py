@@ -35,7 +35,7 @@ def certificate(browser, address):
     lines = browser.all("#lines button")
     last = max(at for at, line in enumerate(lines, 1) if line.text.startswith("key"))
     browser.click(f"#lines li:nth-child({last}) button")
-    browser.run("document.getElementById('proof').scrollIntoView()")
+    browser.run("document.querySelector('#lines [aria-pressed=true]').scrollIntoView({block: 'center'})")
 
 
 def make(folder):

@@ -71,10 +71,11 @@ def first_line(stream):
 class Server:
     """The server as a user starts it, on a free port."""
 
-    def __init__(self, *options, port=("--port", "0"), words=(), environment=None, small=True):
-        """`options` are hexd's own words, those of a small search where none are given, and `words` the server's."""
+    def __init__(self, *options, port=("--port", "0"), words=(), environment=None, small=True, before=()):
+        """`options` are hexd's own words, those of a small search where none are given, and `words` the server's; `before` stands
+        before all of it."""
         self.process = subprocess.Popen(
-            dying(ROOT / "bin" / "hexd-board", *port, *words, "--", *(options or (SMALL if small else ()))),
+            dying(*before, ROOT / "bin" / "hexd-board", *port, *words, "--", *(options or (SMALL if small else ()))),
             stdin=subprocess.DEVNULL,
             stdout=subprocess.PIPE,
             stderr=subprocess.PIPE,

@@ -2,6 +2,7 @@
 
 CROSSED = "White begins in the record, and Black swaps: colours, and rows with columns, are exchanged."
 FIRST = "The file has 2 games; this is the first."
+QUOTE = "x'"
 BROKEN = "The file breaks off in the record: what stands before that is opened."
 SET = "Stones are set at move {}: they are played, one after another."
 
@@ -31,6 +32,7 @@ READ = (
     (b"(;SZ[3]AB[A1][bb];W[c2])(;SZ[9])", "SZ[3]AB[a1][b2];W[c2])", [FIRST]),
     (b"(;SZ[5];AB[C3][a1]C[x];AW[bb]AE[a1];B[d4])", "SZ[5]AB[c3]AW[b2];C[x];;B[d4])", []),
     (b"(;SZ[5]AW[c3];AB[cc]W[a1])", "SZ[5]AB[c3];W[a1])", []),
+    (b"(;SZ[5]AB[a1][b2][a1]AW[b2];AE[c3]AB[bb];W[a2])", "SZ[5]AB[a1][a1][b2];;W[a2])", []),
     (b"(;SZ[5];B[a1];AB[b2][c3]AW[d4]C[x];W[e5])", "SZ[5];B[a1];B[b2];B[c3];W[d4];C[x];W[e5])", [SET.format(2)]),
     (b"(;SZ[5];B[a1](;W[b2])(;AB[c3]W[d4]))", "SZ[5];B[a1](;W[b2])(;B[c3];W[d4]))", [SET.format(2)]),
     (b"(;SZ[5];B[a1](;W[b2])(;AE[a1];W[d4]))", "SZ[5];B[a1];W[b2])",
@@ -58,4 +60,21 @@ REFUSED = (
     (b"(;;B[a1];AE[a1])", "stones are taken away at move 2, which hexd can't do"),
     (b"(;AB[x];B[a1])", "a stone of the start lies on no cell: 'x'"),
     (b"(;SZ[3];AW[zzz];B[a1])", "a stone of the start lies on no cell: 'zzz'"),
+)
+
+# What is quoted of a record is one line of printable characters, and not all of a long one. CA names a character set as browsers
+# know them, and none of Python's other codecs.
+QUOTED = (
+    (b"(;GM[1\n\n=7 forged\n\n= x]SZ[5])", "it is a record of another game than Hex: GM[1??=7 forged??= x]"),
+    (b"(;SZ[\x1b]0;x\x07\x1b[2J])", "size ?: hexd plays 1 to 11"),
+    (b"(;SZ[3\xe2\x80\xae\xe2\x80\xa85])", "size 3??5: hexd plays 1 to 11"),
+    (b"(;SZ[\xd9\xa3])", "size \u0663: hexd plays 1 to 11"),
+    (b"(;SZ[" + b"9" * 100 + b"])", f"size {'9' * 60}: hexd plays 1 to 11"),
+    (b"(;B[" + b"x'" * 100 + b"])", f"move 1 is no move: Black '{30 * QUOTE}'"),
+    (b"(;AB[a\r\nb]B[a1])", "a stone of the start lies on no cell: 'a??b'"),
+    (b"\xff(;CA[unicode_escape]GM[\\ud800]SZ[5])", "it is a record of another game than Hex: GM[\\ud800]"),
+    (b"\xff(;CA[undefined]GM[1])", "it is a record of another game than Hex: GM[1]"),
+    (b"\xff(;CA[rot13]GM[1])", "it is a record of another game than Hex: GM[1]"),
+    (b"\xff(;CA[idna]GM[1])", "it is a record of another game than Hex: GM[1]"),
+    (b"(;CA[ISO-8859-1]GM[\x80])", "it is a record of another game than Hex: GM[\u20ac]"),
 )

@@ -70,3 +70,4 @@ mod SeatsCounts
 mod AnswersCounts
 mod SeatsGrowth
 mod RunLaws
+mod Lags

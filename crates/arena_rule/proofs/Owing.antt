@@ -34,7 +34,8 @@ use Rattle.arena_rule.specs.Afters.{with_word, added_at, node_of_link}
 use Rattle.arena_rule.specs.Answers.{MayAnswer}
 use Rattle.arena_rule.specs.Rule.{IsState, Rule, words_after}
 use Rattle.arena_rule.specs.Owing.{Debtor, view_of, views_of, owed_to, owed_in, IsSeenWord}
-use Rattle.arena_rule.specs.Owing.{OwesRightly, OwingRule, stepped_seat, found_in, seats_after}
+use Rattle.arena_rule.specs.Owing.{owed_part, OwesRightly, OwingRule, stepped_seat, found_in}
+use Rattle.arena_rule.specs.Owing.{seats_after}
 use Rattle.arena_rule.specs.Owing.{CanOwe, owing_more, CanGive, debts_but, owing_less, words_given}
 use Rattle.arena_rule.specs.Lookups.{adds_in}
 use Rattle.arena_rule.proofs.Amounts.{wins_added, amount-parts, wins-less}
@@ -100,8 +101,29 @@ pub rightly-step : (d : Debtor) (op : Op) (x : ℕ) → OwesRightly d
     → OwesRightly (stepped_seat d op x)
 rightly-step d op x h = record {
   seen = λ a c. seen-kept d.view op x a.word (h.seen a c);
+  few = λ w. subst (λ (s : Setting). owed_to w d ≤ owed_part s + amount_of true)
+      (sym (shape-after d.view op x)) (h.few w);
   alone = λ copy e. let t = alone-after d.view op x copy e in h.alone t.0 t.1;
 }
+
+small-add : (won : Bool) → amount_of won ≤ amount_of true
+small-add true = omega arith
+small-add false = omega arith
+
+few-owed : (d : Debtor) (a : CountAdd) → OwesRightly d → CanOwe d a → (w : ℕ)
+    → owed_to w (owing_more d a) ≤ owed_part d.view.shape + amount_of true
+few-owed d a h can w = ⊎_elim
+    (λ (t : (a.word == w) ≡ true).
+    omega (arith, ap (λ (b : Bool). cond b (amount_of a.won) 0) t, small-add a.won, can.few, ap (λ (i : ℕ). owed_to i d) (eqb-true a.word w t)))
+    (λ (t : (a.word == w) ≡ false).
+    omega (arith, ap (λ (b : Bool). cond b (amount_of a.won) 0) t, h.few w))
+    (cases_Bool (a.word == w))
+
+few-left : (d : Debtor) (i w : ℕ) → owed_to w d ≤ owed_part d.view.shape + amount_of true
+    → owed_to w (owing_less d i) ≤ owed_part d.view.shape + amount_of true
+few-left d i w h = dite (ℕ_discrete w i)
+    (λ (e : w ≡ i). omega (arith, ap (λ (k : ℕ). amount_at k (debts_but i d.owed)) e, but-here i d.owed))
+    (λ (ne : w ≢ i). omega (arith, but-else i w d.owed ne, h))
 
 pub rightly-owe : (d : Debtor) (a : CountAdd) → OwesRightly d → CanOwe d a
     → OwesRightly (owing_more d a)
@@ -110,6 +132,8 @@ rightly-owe d a h can = record {
       (λ (e : a ≡ c). subst (λ (z : CountAdd). IsSeenWord (owing_more d a).view z.word) e (seen-kept d.view (Add a.word a.won) 0 a.word can.seen))
       (λ (q : Contains d.owed c). seen-kept d.view (Add a.word a.won) 0 c.word (h.seen c q))
       (add-or a c d.owed m);
+  few = λ w. subst (λ (s : Setting). owed_to w (owing_more d a) ≤ owed_part s + amount_of true)
+      (sym (shape-after d.view (Add a.word a.won) 0)) (few-owed d a h can w);
   alone = λ copy e. let t = alone-after d.view (Add a.word a.won) 0 copy e in
       absurd (none-some t.0 (sym can.alone ∙ t.1));
 }
@@ -117,6 +141,7 @@ rightly-owe d a h can = record {
 pub rightly-give : (d : Debtor) (i : ℕ) → OwesRightly d → OwesRightly (owing_less d i)
 rightly-give d i h = record {
   seen = λ c m. h.seen c (but-among i d.owed c m);
+  few = λ w. few-left d i w (h.few w);
   alone = λ copy e. ap (debts_but i) (h.alone copy e);
 }
 

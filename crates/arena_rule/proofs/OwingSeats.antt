@@ -33,6 +33,7 @@ use Rattle.arena_rule.proofs.Law as law
 pub owes-none : (v : SeatView) → OwesRightly (debtless v)
 owes-none v = record {
   seen = λ a c. let l = c.1 in absurd (omega (arith, l));
+  few = λ w. omega arith;
   alone = λ copy e. refl;
 }
 

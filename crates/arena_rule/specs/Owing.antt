@@ -1,16 +1,19 @@
 -- Seats that owe. A seat may hold back adds of its walks to seen words, and give what it owes to a
 -- word later, in one step. The words with all that is owed given are the settled words: of these
 -- the arena rule speaks.
-use Rattle.std.specs.Prelude.{◌≡◌, ◌≢◌, ℕ, ◌+◌, ◌<◌, ◌≤◌, ◌==◌, not, true, List, [], ◌∷◌, ◌++◌}
+use Rattle.std.specs.Prelude.{◌≡◌, ◌≢◌, ℕ, ◌+◌, ◌*◌, ◌/◌, ◌<◌, ◌≤◌, ◌==◌, not, true, List, [], ◌∷◌}
+use Rattle.std.specs.Prelude.{◌++◌}
 use Rattle.std.specs.Prelude.{length, map, sum_by, slice_index, slice_set, Contains, None, Some}
 use Rattle.std.specs.List.{filter}
 use mathlib.Core.Option.{some}
 use lib.ListN.{get_elem?}
 use Rattle.tree_words.specs.Settings.{Setting}
 use Rattle.tree_words.specs.Words.{root_at, visits_in, wins_in}
-use Rattle.tree_words.specs.declared.layout.TheConstants.{SEEN_WORD}
+use Rattle.tree_words.specs.Sequence.{amount_of}
+use Rattle.tree_words.specs.declared.layout.TheConstants.{SEEN_WORD, VISIT}
 use Rattle.tree_words.specs.declared.steps.Op.{Op}
 use Rattle.tree_words.specs.declared.steps.Op.TheVariants.{Add}
+use Rattle.arena_rule.specs.declared.views.TheConstants.{MOST_OWED_VISITS}
 use Rattle.arena_rule.specs.Views.{SeatView, spent_view, unseen_view}
 use Rattle.arena_rule.specs.Adds.{CountAdd, amount_at}
 use Rattle.arena_rule.specs.Lookups.{is_known}
@@ -53,9 +56,15 @@ pub record IsSeenWord (v : SeatView) (w : ℕ) : Type 0 where
   pub below : node ≢ root_at v.shape
   pub word : w ≡ node + SEEN_WORD
 
--- a seat owes to seen words alone, and nothing if its view has a copy of all words
+-- one worker's part of the visits that all workers may owe to a word
+abbrev pub owed_part : Setting → ℕ
+owed_part s = MOST_OWED_VISITS * VISIT / s.knobs.workers
+
+-- a seat owes to seen words alone, to each at most a worker's part and one visit with a win more,
+-- and nothing if its view has a copy of all words
 pub record OwesRightly (d : Debtor) : Type 0 where
   pub seen : (a : CountAdd) → Contains d.owed a → IsSeenWord d.view a.word
+  pub few : (w : ℕ) → owed_to w d ≤ owed_part d.view.shape + amount_of true
   pub alone : (copy : List ℕ) → d.view.whole ≡ Some copy → d.owed ≡ []
 
 -- The arena rule with debts: there are the settled words, which have at each word what the words
@@ -86,11 +95,12 @@ found_in words op = answer_of op (slice_index words (word_of op))
 abbrev pub seats_after : List ℕ → List Debtor → ℕ → Debtor → Op → List Debtor
 seats_after words seats id d op = slice_set seats id (stepped_seat d op (found_in words op))
 
--- Owe: the seat may make this add, which is one to the seen word of a known node, and has no copy
--- of the words
+-- Owe: the seat may make this add, which is one to the seen word of a known node, owes no more than
+-- a worker's part to that word, and has no copy of the words
 pub record CanOwe (d : Debtor) (a : CountAdd) : Type 0 where
   pub fits : FitsStep d.view (Add a.word a.won)
   pub seen : IsSeenWord d.view a.word
+  pub few : owed_to a.word d ≤ owed_part d.view.shape
   pub alone : d.view.whole ≡ None
 
 -- afterwards its view is the one after the add, and it owes the add
@@ -178,6 +188,12 @@ abbrev pub OwesAtSeenWords : (s : Setting) (a : OwingArena) → OwingHolds s a �
 OwesAtSeenWords s a rule = (i : ℕ) → 0 < owed_in i a.seats
     → (x : ℕ) × (is_node (root_at s) rule.rule.blocks x ≡ true) × (x ≢ root_at s)
     × (i ≡ x + SEEN_WORD)
+
+-- how far a word lags behind its settled one: by MOST_OWED_VISITS visits in all, and by one visit
+-- with a win for each worker
+abbrev pub LagsLittle : Setting → OwingArena → Type 0
+LagsLittle s a = (i : ℕ)
+    → owed_in i a.seats ≤ MOST_OWED_VISITS * VISIT + s.knobs.workers * amount_of true
 
 -- if one seat is left, whose workers have ended, and it owes nothing, the tree is closed
 abbrev pub OwingEndsClosed : Setting → OwingArena → Type 0

@@ -15,6 +15,7 @@ ghost use Rattle.arena_rule.specs.Shown.{StepsKeepOrder, SplitsKeepOrder, JoinsK
 ghost use Rattle.arena_rule.specs.Owing.{OwingArena, OwingHolds, OwingStepsKeep};
 ghost use Rattle.arena_rule.specs.Owing.{OwingStepsMayAnswer, OwesKeep, GivesKeep};
 ghost use Rattle.arena_rule.specs.Owing.{OwingSplitsKeep, OwingJoinsKeep, OwesAtSeenWords};
+ghost use Rattle.arena_rule.specs.Owing.{LagsLittle};
 ghost use Rattle.arena_rule.specs.Owing.{OwingEndsClosed};
 
 /// The law of a step: if a seat's view fits a step, the rule holds after it, and the answer is one
@@ -109,6 +110,7 @@ pub fn debts_are_kept()
     ensures gives { (s : Setting) (a : OwingArena) → OwingHolds s a → GivesKeep s a }
     ensures words { (s : Setting) (a : OwingArena) (rule : OwingHolds s a)
         → OwesAtSeenWords s a rule }
+    ensures lag { (s : Setting) (a : OwingArena) → OwingHolds s a → LagsLittle s a }
 {}
 
 /// The law of seats that owe nothing: the rule holds after a split and a join of them, and if one

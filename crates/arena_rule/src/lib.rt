@@ -68,4 +68,4 @@ pub use laws::{
     joins, known_blocks_stay, runs, seats_without_debts, splits, steps, steps_with_debts,
     views_stay_in_order, wins_are_among_visits,
 };
-pub use views::Account;
+pub use views::{Account, MOST_OWED_VISITS};

@@ -28,6 +28,8 @@ mod of_hsearch;
 #[cfg(test)]
 mod of_htp_line;
 #[cfg(test)]
+mod of_live_links;
+#[cfg(test)]
 mod of_look_ahead;
 #[cfg(test)]
 mod of_sgf_game;

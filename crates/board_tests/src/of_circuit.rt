@@ -3,7 +3,7 @@
 use circuit::Circuit;
 use hex_board::Board;
 use hex_cells::{Cell, Colour, Size};
-use hsearch::connect;
+use live_links::{Links, Until};
 use std::alloc::Global;
 use std::rt::HostRuntime;
 use std::test::Fail;
@@ -19,21 +19,18 @@ fn one_cell(rt: HostRuntime) -> Result<(), Fail> {
     let board = Board::empty(Size::of(1).ok_or("a size")?);
     let mut circuit = Circuit::make(alloc)?;
     for colour in [Colour::Black, Colour::White] {
-        let Ok(report) = connect(alloc, &board, colour) else {
-            return Err(Fail::from("memory"));
-        };
-        circuit.load(report.store());
+        load(alloc, &mut circuit, &board, colour)?;
         assert_eq!(rt; circuit.total(), UNIT);
         assert_eq!(rt; circuit.part(Cell::numbered(0)), u64::from(2 * UNIT));
     }
     Ok(())
 }
 
-fn load(alloc: Global, circuit: &mut Circuit, board: &Board) -> Result<(), Fail> {
-    let Ok(report) = connect(alloc, board, Colour::Black) else {
-        return Err(Fail::from("memory"));
-    };
-    circuit.load(report.store());
+// Makes it the circuit of a player's links.
+fn load(alloc: Global, circuit: &mut Circuit, board: &Board, colour: Colour) -> Result<(), Fail> {
+    let mut links = Links::make(alloc)?;
+    links.load(board, colour, Until::Closed)?;
+    links.draw(circuit);
     Ok(())
 }
 
@@ -44,7 +41,7 @@ fn two_by_two(rt: HostRuntime) -> Result<(), Fail> {
     let alloc = rt.alloc();
     let board = Board::empty(Size::of(2).ok_or("a size")?);
     let mut circuit = Circuit::make(alloc)?;
-    load(alloc, &mut circuit, &board)?;
+    load(alloc, &mut circuit, &board, Colour::Black)?;
     let (left, right) = (
         circuit.part(Cell::numbered(2)),
         circuit.part(Cell::numbered(1)),
@@ -61,10 +58,10 @@ fn own_stone(rt: HostRuntime) -> Result<(), Fail> {
     let alloc = rt.alloc();
     let mut board = Board::empty(Size::of(2).ok_or("a size")?);
     let mut circuit = Circuit::make(alloc)?;
-    load(alloc, &mut circuit, &board)?;
+    load(alloc, &mut circuit, &board, Colour::Black)?;
     let empty = circuit.total();
     board.place(Colour::Black, Cell::numbered(0));
-    load(alloc, &mut circuit, &board)?;
+    load(alloc, &mut circuit, &board, Colour::Black)?;
     assert!(rt; empty < circuit.total());
     Ok(())
 }

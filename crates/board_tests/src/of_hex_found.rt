@@ -5,13 +5,15 @@ use super::of_hsearch::board_of;
 use cert_check::check;
 use conn_store::Kind;
 use hex_board::Board;
-use hex_cells::{Colour, Size};
-use hex_found::{Memory, Sought, certified, find, seek};
+use hex_cells::{Cell, Colour, Size};
+use hex_found::{Findings, Memory, Sought, certified, find, seek};
 use std::alloc::Global;
 use std::process::Abort;
 use std::rt::HostRuntime;
 use std::test::Fail;
-use win_cert::{LATEST_VERSION, MOST_LINES, SECOND_VERSION, Verdict, claimed_move, read};
+use win_cert::{
+    LATEST_VERSION, MOST_LINES, SECOND_VERSION, THIRD_VERSION, Verdict, claimed_move, read,
+};
 
 // That Black wins the empty board of size 2, in the version that its lines need.
 const BLACK_WINS: &[u8] = b"hexcert 2\nsize 2\nplayer black\nblack\nwhite\n\
@@ -41,11 +43,17 @@ const REFUSED: &[u8] = b"hexcert 2\nsize 2\nplayer black\nblack\nwhite\n\
 // Enough for the boards of these tests.
 const BUDGET: u64 = 10_000;
 
+// 3^2 for Black's stone on c1 of size 3.
+const AFTER_C1: u32 = 9;
+
 // 3^3 for Black's stone on d1 of size 4.
 const AFTER_D1: u32 = 27;
 
+// 3^7 for Black's stone on d2 of size 4.
+const AFTER_D2: u32 = 2_187;
+
 // 3^8 for Black's stone on d2 of size 5.
-const AFTER_D2: u32 = 6_561;
+const AFTER_D2_OF_FIVE: u32 = 6_561;
 
 // The least budget by which a program that was built before states were counted so won after d1.
 const ENTERED: u64 = 5;
@@ -55,15 +63,43 @@ fn board(rt: &impl Abort, size: u32, stones: u32) -> Board {
     board_of(Size::of(size).expect(rt, "a size"), stones)
 }
 
+// Puts a stone on the cell with this number, if that lies on the board and is empty.
+fn put(board: &mut Board, colour: Colour, number: u32) {
+    if number < board.size().cells() {
+        let cell = Cell::numbered(number);
+        match board.at(cell) {
+            None => board.place(colour, cell),
+            Some(_) => {}
+        }
+    }
+}
+
+// What is claimed, if it is accepted with this carrier.
+fn claim_over(verdict: Verdict, bits: u128) -> Option<Kind> {
+    match verdict {
+        Verdict::Yes { claim, carrier } if carrier.bits() == bits => Some(claim),
+        _ => None,
+    }
+}
+
+// What is found by entering at most so many positions, however many lines it has.
+fn findings(rt: &impl Abort, alloc: Global, board: &Board, mover: Colour, budget: u64) -> Findings {
+    let Ok(findings) = find(alloc, board, mover, budget, MOST_LINES) else {
+        panic!(rt; "there is memory");
+    };
+    findings
+}
+
 // Who wins by what claim, as the checker says of the certificate that is found.
 fn found(alloc: Global, board: &Board, mover: Colour) -> Result<Option<(Colour, Kind)>, Memory> {
-    match find(alloc, board, mover, BUDGET)? {
-        Some(cert) => match check(alloc, &cert) {
-            Ok(Verdict::Yes { claim, carrier: _ }) => Ok(Some((cert.player, claim))),
-            _ => Ok(None),
-        },
-        None => Ok(None),
-    }
+    let Some(found) = find(alloc, board, mover, BUDGET, MOST_LINES)?.found else {
+        return Ok(None);
+    };
+    let Ok(verdict) = check(alloc, &found.cert) else {
+        return Ok(None);
+    };
+    let told = claim_over(verdict, found.carrier.bits());
+    Ok(told.map(|claim| (found.cert.player, claim)))
 }
 
 #[test]
@@ -76,7 +112,7 @@ fn small_boards_are_decided(rt: HostRuntime) {
         (3, 0, Black, Some((Black, Semi))),
         // After a1 White wins, and after c1 Black.
         (3, 1, White, Some((White, Semi))),
-        (3, 9, White, Some((Black, Full))),
+        (3, AFTER_C1, White, Some((Black, Full))),
         (4, AFTER_D1, White, Some((Black, Full))),
         // A stone that joins the edges.
         (1, 0, White, Some((White, Semi))),
@@ -98,14 +134,46 @@ fn small_boards_are_decided(rt: HostRuntime) {
 fn claim_is_a_move(rt: HostRuntime) {
     for size in [2, 3, 4, 5] {
         let board = board(&rt, size, 0);
-        let Ok(sought) = seek(rt.alloc(), &board, Colour::Black, 1, MOST_LINES) else {
+        let Ok(sought) = seek(rt.alloc(), &board, Colour::Black, 1) else {
             panic!(rt; "there is memory");
         };
         assert_eq!(rt; sought.by_mover, Some(true), "{size}");
-        let Ok(Some(cert)) = find(rt.alloc(), &board, Colour::Black, 1) else {
+        let Some(found) = findings(&rt, rt.alloc(), &board, Colour::Black, 1).found else {
             panic!(rt; "a certificate is found");
         };
-        assert!(rt; claimed_move(&cert).is_some(), "{size}");
+        assert!(rt; claimed_move(&found.cert).is_some(), "{size}");
+    }
+}
+
+/// Positions that the first one decides, by a claim that is no `move`, since no winning stone is
+/// known: they are certified all the same.
+#[test]
+fn claim_may_be_no_move(rt: HostRuntime) {
+    // White's e4, e5 and e6 of size 6, after Black's e3.
+    for white in [22, 28, 34] {
+        let mut board = board(&rt, 6, 0);
+        put(&mut board, Colour::Black, 16);
+        put(&mut board, Colour::White, white);
+        let Some(found) = findings(&rt, rt.alloc(), &board, Colour::Black, 1).found else {
+            panic!(rt; "a certificate is found after {white}");
+        };
+        assert_eq!(rt; found.cert.player, Colour::Black);
+        assert!(rt; claimed_move(&found.cert).is_none(), "{white}");
+    }
+}
+
+/// A certificate of more lines than are asked for is not found.
+#[test]
+fn lines_are_at_most_as_many(rt: HostRuntime) {
+    let board = board(&rt, 4, AFTER_D1);
+    let lines = lines_of(&sought(&rt, rt.alloc(), BUDGET));
+    for (most, expected) in [(lines, true), (lines.saturating_sub(1), false), (0, false)] {
+        let Ok(answer) = find(rt.alloc(), &board, Colour::White, BUDGET, most) else {
+            panic!(rt; "there is memory");
+        };
+        assert_eq!(rt; answer.found.is_some(), expected, "{most}");
+        // As many positions were entered, whatever is answered.
+        assert_eq!(rt; answer.entered, ENTERED, "{most}");
     }
 }
 
@@ -134,28 +202,28 @@ fn certificates_are_compared(rt: HostRuntime) {
     }
 }
 
+/// Lines are lifted if that makes a certificate shorter, and else it has the least version.
 #[test]
 fn version_is_what_lines_need(rt: HostRuntime) {
     // The size, the stones, and the version of the certificate.
-    let rows = [(4, AFTER_D1, SECOND_VERSION), (5, AFTER_D2, LATEST_VERSION)];
+    let rows = [
+        (3, AFTER_C1, SECOND_VERSION),
+        (4, AFTER_D2, THIRD_VERSION),
+        (4, AFTER_D1, LATEST_VERSION),
+        (5, AFTER_D2_OF_FIVE, LATEST_VERSION),
+    ];
     for (size, stones, version) in rows {
         let board = board(&rt, size, stones);
-        let Ok(Some(cert)) = find(rt.alloc(), &board, Colour::White, BUDGET) else {
+        let Some(found) = findings(&rt, rt.alloc(), &board, Colour::White, BUDGET).found else {
             panic!(rt; "a certificate is found");
         };
-        assert_eq!(rt; cert.version, version);
+        assert_eq!(rt; found.cert.version, version);
     }
 }
 
 // What is sought on size 4 after d1. More than one position has to be entered.
 pub(crate) fn sought(rt: &impl Abort, alloc: Global, budget: u64) -> Sought {
-    let Ok(sought) = seek(
-        alloc,
-        &board(rt, 4, AFTER_D1),
-        Colour::White,
-        budget,
-        MOST_LINES,
-    ) else {
+    let Ok(sought) = seek(alloc, &board(rt, 4, AFTER_D1), Colour::White, budget) else {
         panic!(rt; "there is memory");
     };
     sought
@@ -187,6 +255,14 @@ fn budget_is_spent(rt: HostRuntime) -> Result<(), Fail> {
             (None, budget, 0)
         );
         assert!(rt; short.cert.is_none());
+        let none = findings(
+            &rt,
+            rt.alloc(),
+            &board(&rt, 4, AFTER_D1),
+            Colour::White,
+            budget,
+        );
+        assert_eq!(rt; (none.found.is_some(), none.entered), (false, budget));
     }
     Ok(())
 }

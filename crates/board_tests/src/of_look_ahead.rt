@@ -7,28 +7,37 @@ use std::alloc::Global;
 use std::rt::HostRuntime;
 use std::test::Fail;
 
-// `any` is one of the empty cells, all of which may be chosen.
+// A look of its own at these cells, of which one may be chosen.
 fn looked(
     alloc: Global,
     board: &Board,
     colour: Colour,
-    any: Cell,
+    must: CellSet,
     nodes: u32,
 ) -> Result<Looked, Fail> {
-    let empties = board.empties();
-    if !empties.has(any) || nodes == 0 {
-        return Err(Fail::from("nothing to look at"));
-    }
     let Ok(mut look) = Look::make(alloc) else {
         return Err(Fail::from("memory"));
     };
-    let root = Root {
-        board,
-        colour,
-        own: None,
-        other: None,
+    looked_on(alloc, &mut look, board, colour, must, nodes)
+}
+
+// What this look finds.
+fn looked_on(
+    alloc: Global,
+    look: &mut Look,
+    board: &Board,
+    colour: Colour,
+    must: CellSet,
+    nodes: u32,
+) -> Result<Looked, Fail> {
+    let Some(any) = must.least() else {
+        return Err(Fail::from("no cell"));
     };
-    match look.choose(alloc, &root, empties, nodes) {
+    if !must.has(any) || nodes == 0 {
+        return Err(Fail::from("nothing to look at"));
+    }
+    let root = Root { board, colour };
+    match look.choose(alloc, &root, must, nodes) {
         Ok(looked) => Ok(looked),
         Err(_) => Err(Fail::from("memory")),
     }
@@ -39,7 +48,7 @@ fn looked(
 fn takes_a_win(rt: HostRuntime) -> Result<(), Fail> {
     let board = Board::empty(Size::of(2).ok_or("a size")?);
     for colour in [Colour::Black, Colour::White] {
-        let looked = looked(rt.alloc(), &board, colour, Cell::numbered(0), 50)?;
+        let looked = looked(rt.alloc(), &board, colour, board.empties(), 50)?;
         let chosen = looked.cell().number();
         assert!(rt; chosen == 1 || chosen == 2);
         assert_eq!(rt; looked.rows().len(), 4);
@@ -59,7 +68,7 @@ fn takes_a_win(rt: HostRuntime) -> Result<(), Fail> {
 fn sees_losses(rt: HostRuntime) -> Result<(), Fail> {
     let mut board = Board::empty(Size::of(2).ok_or("a size")?);
     board.place(Colour::Black, Cell::numbered(1));
-    let looked = looked(rt.alloc(), &board, Colour::White, Cell::numbered(0), 50)?;
+    let looked = looked(rt.alloc(), &board, Colour::White, board.empties(), 50)?;
     assert!(rt; board.empties().has(looked.cell()));
     for row in looked.rows() {
         assert_eq!(rt; row.known, Some(Outcome::Lost));
@@ -73,22 +82,14 @@ fn sees_losses(rt: HostRuntime) -> Result<(), Fail> {
 fn few(rt: HostRuntime) -> Result<(), Fail> {
     let alloc = rt.alloc();
     let board = Board::empty(Size::of(11).ok_or("a size")?);
-    let any = Cell::numbered(0);
-    assert_eq!(rt; looked(alloc, &board, Colour::Black, any, 1)?.nodes(), 1);
-    assert_eq!(rt; looked(alloc, &board, Colour::Black, any, 7)?.nodes(), 7);
-    let Ok(mut look) = Look::make(alloc) else {
-        return Err(Fail::from("memory"));
-    };
-    let root = Root {
-        board: &board,
-        colour: Colour::White,
-        own: None,
-        other: None,
-    };
+    let all = board.empties();
+    assert_eq!(rt; looked(alloc, &board, Colour::Black, all, 1)?.nodes(), 1);
+    assert_eq!(rt; looked(alloc, &board, Colour::Black, all, 7)?.nodes(), 7);
     let only = Cell::numbered(17);
-    let Ok(looked) = look.choose(alloc, &root, CellSet::none().with(only), 3) else {
-        return Err(Fail::from("memory"));
-    };
-    assert_eq!(rt; looked.cell(), only);
+    let single = CellSet::none().with(only);
+    assert_eq!(rt;
+        looked(alloc, &board, Colour::White, single, 3)?.cell(),
+        only
+    );
     Ok(())
 }

@@ -1,12 +1,9 @@
 //! What no clause says: the certificates V1, V2 and V3, texts that are none, and ample memory.
 
-use hex_board::Board;
-use hex_cells::{CellSet, Colour, Size};
-use hsearch::connect;
 use std::alloc::Global;
 use std::rt::HostRuntime;
 use std::test::Fail;
-use win_cert::{CertError, End, LATEST_VERSION, Line, is_writable, lines_onto, raise, read, write};
+use win_cert::{CertError, LATEST_VERSION, is_writable, raise, read, write};
 
 const V1: &[u8] = b"hexcert 1\nsize 2\nplayer black\nblack\nwhite\n\
     adj a2 a1\nadj a1 edge1\nadj a2 b1\nadj b1 edge1\n\
@@ -64,17 +61,17 @@ fn read_and_written(rt: HostRuntime) -> Result<(), Fail> {
     assert!(rt; raised.as_slice().starts_with(b"hexcert 2\n"));
     assert!(rt; raised.as_slice().ends_with(&V1[10..]));
     assert_eq!(rt; rewritten(rt.alloc(), MANY, true)?.as_slice(), MANY);
-    assert_eq!(rt; LATEST_VERSION, 3);
+    assert_eq!(rt; LATEST_VERSION, 4);
     Ok(())
 }
 
-// An `or` of four can be written in version 3 alone.
+// An `or` of four can be written from version 3 on.
 #[test]
-fn written_in_one_version(rt: HostRuntime) -> Result<(), Fail> {
+fn written_from_one_version_on(rt: HostRuntime) -> Result<(), Fail> {
     let Ok(mut cert) = read(rt.alloc(), MANY) else {
         return Err("a certificate".into());
     };
-    for (version, can_be) in [(2, false), (LATEST_VERSION, true), (4, false)] {
+    for (version, can_be) in [(2, false), (3, true), (LATEST_VERSION, true), (5, false)] {
         cert.version = version;
         assert_eq!(rt; is_writable(&cert), can_be);
     }
@@ -98,7 +95,7 @@ fn refused_at_their_lines(rt: HostRuntime) -> Result<(), Fail> {
     let cases: [(&[u8], &[u8], Option<u32>); 21] = [
         (V1, b"\n", Some(16)),
         (V1, b"x", Some(16)),
-        (b"hexcert 4\n", b"", Some(1)),
+        (b"hexcert 5\n", b"", Some(1)),
         (b"hexcert 01\n", b"", Some(1)),
         (b"hexcert 1\nsize 12\n", b"", Some(2)),
         (b"hexcert 1\nsize 0\n", b"", Some(2)),
@@ -163,28 +160,5 @@ fn a_line_too_many(rt: HostRuntime) -> Result<(), Fail> {
     text.truncate(length);
     text.extend_from_slice(b"adj a1 edge1\nx")?;
     assert!(rt; matches!(read(rt.alloc(), &text), Err(CertError::TooManyLines)));
-    Ok(())
-}
-
-// The three lines of the board with one cell, for two entries that share one, after a line that
-// stands there.
-#[test]
-fn lines_after_others(rt: HostRuntime) -> Result<(), Fail> {
-    let size = Size::of(1).ok_or("a size")?;
-    let board = Board::empty(size);
-    let Ok(report) = connect(rt.alloc(), &board, Colour::Black) else {
-        return Err("memory".into());
-    };
-    let store = report.store();
-    assert_eq!(rt; store.entries().len(), 3);
-    let mut lines = Vec::new(rt.alloc());
-    lines.push(Line::Put(CellSet::none()))?;
-    let numbers = lines_onto(rt.alloc(), store, &[2, 0], &mut lines)?;
-    assert_eq!(rt; numbers.as_slice(), [3, 1].as_slice());
-    assert_eq!(rt; lines.len(), 4);
-    assert!(rt; matches!(&lines[0], Line::Put(_)));
-    assert!(rt; matches!(&lines[1], Line::Adj(End::First, End::At(_))));
-    assert!(rt; matches!(&lines[2], Line::Adj(End::Second, End::At(_))));
-    assert!(rt; matches!(&lines[3], Line::Key(2, 1)));
     Ok(())
 }

@@ -5,12 +5,13 @@
 -- 3. A form of line each, in src/reading.rt, chains.rt and scopes.rt, by the tests in src/named.rt,
 --    with ReasonLaws (which reasons may stand against each form, in their order, and which the
 --    checker's tests tell), ChainReasons (`and`, `key`), OrReasons (`or`), BadStones (`put`),
---    Sharing and Passing (cells that all carriers have).
+--    Sharing and Passing (cells that all carriers have). `lift` is in src/lifting.rt, with LiftTests.
 -- 4. src/checking.rt, with the law of accepted certificates for its clause `wins`.
 
 -- Steps of this crate's own proofs.
 mod BadStones
 mod ChainReasons
+mod LiftTests
 mod Passing
 mod Sharing
 mod ReasonLaws

@@ -18,7 +18,7 @@ use Rattle.win_cert.specs.declared.statements.Statement.{Statement}
 use Rattle.win_cert.specs.declared.statements.Statement.TheVariants.{Derivation}
 use Rattle.win_cert.specs.declared.lines.Line.{Line}
 use Rattle.win_cert.specs.declared.lines.Line.TheVariants.{Adj, And, Key, Or2, Or3, Put, Done, Move}
-use Rattle.win_cert.specs.declared.lines.Line.TheVariants.{Cases, OrMany}
+use Rattle.win_cert.specs.declared.lines.Line.TheVariants.{Cases, Lift, OrMany}
 use Rattle.win_cert.proofs.CutSteps.{many_reasons, two_reasons, three_reasons}
 use Rattle.cert_check.specs.Keeping.{IsGivenOn, IsOrOf, TakesKind, entry_of}
 use Rattle.cert_check.specs.declared.given.Given.{Given}
@@ -46,6 +46,7 @@ or_reasons c (Put cells) numbers h = absurd (false≢true h.0)
 or_reasons c Done numbers h = absurd (false≢true h.0)
 or_reasons c (Move k i) numbers h = absurd (false≢true h.0)
 or_reasons c (Cases ns) numbers h = absurd (false≢true h.0)
+or_reasons c (Lift i) numbers h = absurd (false≢true h.0)
 
 pub or_takes : (line : Line) (numbers : List ℕ) → IsOrOf line numbers
     → TakesKind (Derivation line) Semi true
@@ -59,6 +60,7 @@ or_takes (Put cells) numbers h = absurd (false≢true h.0)
 or_takes Done numbers h = absurd (false≢true h.0)
 or_takes (Move k i) numbers h = absurd (false≢true h.0)
 or_takes (Cases ns) numbers h = absurd (false≢true h.0)
+or_takes (Lift i) numbers h = absurd (false≢true h.0)
 
 pub or_gives : (c : Context) (line : Line) (numbers : List ℕ) → IsOrOf line numbers
     → gives c line ≡ or_entry c (entries_at c numbers)
@@ -72,6 +74,7 @@ or_gives c (Put cells) numbers h = absurd (false≢true h.0)
 or_gives c Done numbers h = absurd (false≢true h.0)
 or_gives c (Move k i) numbers h = absurd (false≢true h.0)
 or_gives c (Cases ns) numbers h = absurd (false≢true h.0)
+or_gives c (Lift i) numbers h = absurd (false≢true h.0)
 
 -- ---- by the checker's tests
 

@@ -1,12 +1,13 @@
 -- Which reasons may stand against each form of line, in their order.
 use Rattle.std.proofs.Common.{◌≡◌, ℕ, List, [], ◌∷◌, ◌==◌, ◌&&◌, not, Option, Some, None, Bool}
-use Rattle.std.proofs.Common.{true, false, refl, sym, ◌∙◌, ap, if◌then◌else◌}
-use Rattle.std.specs.List.{list_all}
+use Rattle.std.proofs.Common.{true, false, refl, sym, ◌∙◌, ap}
+use Rattle.std.specs.List.{cons_option, list_all}
+use Rattle.std.specs.Option.{is_none}
 use Rattle.std.proofs.lemmas.Bool.{and_parts, false≢true, true≢false}
 use Rattle.hex_cells.specs.Sets.{with_cell}
 use Rattle.hex_board.specs.Positions.{is_empty_at}
 use Rattle.conn_store.specs.declared.entries.Kind.{Kind}
-use Rattle.win_cert.specs.Entries.{Context, elements_at, entries_at, entry_at}
+use Rattle.win_cert.specs.Entries.{Context, ScopedEntry, elements_at, entries_at, entry_at}
 use Rattle.win_cert.specs.Reasons.{reason_against, is_bad_reference, is_wrong_scope}
 use Rattle.win_cert.specs.Reasons.{has_no_middle}
 use Rattle.win_cert.specs.Reasons.{do_carriers_meet, is_end_in_carrier, is_middle_wrong}
@@ -16,10 +17,11 @@ use Rattle.win_cert.specs.declared.reasons.Reason.TheVariants.{NoCommonMiddle}
 use Rattle.win_cert.specs.declared.reasons.Reason.TheVariants.{CarriersMeet, EndInCarrier}
 use Rattle.win_cert.specs.declared.reasons.Reason.TheVariants.{MiddleKind, CommonCell, NotEdges}
 use Rattle.win_cert.specs.declared.reasons.Reason.TheVariants.{BadStone, WrongScope}
+use Rattle.win_cert.specs.Scopes.{is_part}
 use Rattle.win_cert.specs.Statements.{is_edge_entry, may_take, share_cell}
 use Rattle.win_cert.specs.declared.statements.Statement.{Statement}
 use Rattle.win_cert.specs.declared.statements.Statement.TheVariants.{Claim, Derivation}
-use Rattle.win_cert.specs.declared.lines.Line.TheVariants.{Move, Cases}
+use Rattle.win_cert.specs.declared.lines.Line.TheVariants.{Move, Cases, Lift}
 use Rattle.cert_check.specs.Keeping.{chain_line}
 pub use Rattle.win_cert.proofs.CutSteps.{told, adj_reasons}
 pub use Rattle.win_cert.proofs.ScopeLines.{put_reasons, done_reasons, move_reasons, cases_reasons}
@@ -73,6 +75,27 @@ kept_scope {c = c} numbers kept is = scope_is c numbers (ap (λ n. n.scope) kept
 
 -- ---- the reasons by the checker's tests: whether the entries may be taken, whether the cell is
 -- empty, whether the entries are in the scope, share a cell, and are of the edges
+
+pub lift_reasons : (c : Context) (i : ℕ) → reason_against c (Derivation (Lift i)) ≡ told
+    (is_bad_reference c (Derivation (Lift i))) BadReference
+    (told (is_wrong_scope c (Derivation (Lift i))) WrongScope None)
+unfolding reason_against
+lift_reasons c i = refl
+
+lift_part : {part : Bool} (c : Context) (a : ScopedEntry) → part ≡ is_part a.scope c.scope
+    → not (part && true) ≡ not part
+lift_part {part = true} c a h = refl
+lift_part {part = false} c a h = refl
+
+-- of the entry that is named, by whether its scope is a part of the line's
+pub lift_tested : {part : Bool} (c : Context) (i : ℕ) (a : ScopedEntry) → entry_at c i ≡ Some a
+    → part ≡ is_part a.scope c.scope
+    → reason_against c (Derivation (Lift i)) ≡ told (not part) WrongScope None
+lift_tested c i a h p =
+    lift_reasons c i
+    ∙ ap (λ o. told (is_none o) BadReference (told (not (list_all (λ e. is_part e.scope c.scope) (cons_option o []))) WrongScope None)) h
+    ∙ ap (λ b. told (not (b && true)) WrongScope None) (sym p)
+    ∙ ap (λ b. told b WrongScope None) (lift_part c a p)
 
 pub move_tested : {taken empty inside edges : Bool} (c : Context) (k i : ℕ)
     → taken ≡ list_all (λ j. may_take (Derivation (Move k i)) (entry_at c j)) (i ∷ [])

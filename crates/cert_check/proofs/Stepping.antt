@@ -1,9 +1,11 @@
 -- The lines of a certificate as the checker goes through them.
 use Rattle.std.proofs.Common.{◌≡◌, ℕ, ◌<◌, ◌≤◌, List, [], ◌∷◌, Some, length, get_or, sym, ap, subst}
-use Rattle.std.proofs.Common.{zero, suc, arith}
+use Rattle.std.proofs.Common.{Bool, true, false, if◌then◌else◌, nat_le, zero, suc, arith}
 use Rattle.std.specs.List.{slice_get}
 use Rattle.win_cert.specs.Entries.{Context, context_at}
+use Rattle.win_cert.specs.Writable.{most_lines}
 use Rattle.win_cert.specs.declared.certs.Cert.{Cert}
+use Rattle.win_cert.specs.declared.certs.TheConstants.{LATEST_VERSION, MOST_LATEST_LINES, MOST_LINES}
 use Rattle.win_cert.specs.declared.lines.Line.{Line}
 use Rattle.win_cert.proofs.Stepping.{AreClearTo}
 
@@ -12,6 +14,14 @@ pub at_index : {X : Type 0} (xs : List X) (i : ℕ) (x : X) → i < length xs �
 at_index [] i x l e = absurd (omega (arith, l))
 at_index (y ∷ xs) zero x l e = ap Some (sym e)
 at_index (y ∷ xs) (suc i) x l e = at_index xs i x (omega (arith, l)) e
+
+-- in each version
+pub few_lines : (v : ℕ) → most_lines v ≤ MOST_LATEST_LINES
+few_lines v = of_both (nat_le LATEST_VERSION v)
+  where
+    of_both : (b : Bool) → (if b then MOST_LATEST_LINES else MOST_LINES) ≤ MOST_LATEST_LINES
+    of_both true = omega arith
+    of_both false = omega arith
 
 -- k lines were read: this is kept, the next line has this number, and no reason stands so far
 abbrev pub IsReadTo : Cert → Context → ℕ → ℕ → Type 0

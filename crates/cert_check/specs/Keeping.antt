@@ -4,7 +4,7 @@ use Rattle.std.specs.Prelude.{List, Option, Some, None, Result, Ok, Err, All}
 use Rattle.std.specs.Option.{option_map}
 use Rattle.conn_store.specs.declared.entries.Kind.{Kind}
 use Rattle.hex_board.specs.Elements.{PlayerBoard, element_count}
-use Rattle.hex_board.specs.Positions.{Position}
+use Rattle.hex_board.specs.Positions.{AllEmpty, Position}
 use Rattle.win_cert.specs.Entries.{Context, ScopedEntry, entry_at, gives}
 use Rattle.win_cert.specs.Reasons.{is_bad_reference, is_wrong_scope, reason_against}
 use Rattle.win_cert.specs.Scopes.{elements_in}
@@ -88,4 +88,5 @@ pub record IsChecker (base : PlayerBoard) (scope : ℕ) (board : Position) (elem
     (given : List (Option Given)) : Type 0 where
   pub is_board : board ≡ (elements_in base scope).board
   pub are_elements : elements ≡ elements_in base scope
+  pub fresh : AllEmpty base.board scope
   pub are_given : All (IsGivenOnIf base) given

@@ -105,8 +105,8 @@ fn number_elements(elements: &mut Elements, board: &Board, player: Colour)
     *elements = board.elements(player);
 }
 
-// The board with the player's stones on these empty cells too.
-fn with_stones(base: &Board, player: Colour, cells: CellSet) -> Board
+/// The board with the player's stones on these empty cells too.
+pub(super) fn with_stones(base: &Board, player: Colour, cells: CellSet) -> Board
     requires { (k : ℕ) → has cells k ≡ true → is_empty_at base.now k ≡ true }
     ensures { result ≡ with_stones base.now player cells }
 {

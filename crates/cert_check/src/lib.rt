@@ -33,6 +33,7 @@ mod chains;
 mod checkers;
 mod checking;
 mod given;
+mod lifting;
 mod named;
 mod reading;
 mod refusals;

@@ -35,6 +35,7 @@ impl Checker {
             Line::Done => self.done()?,
             Line::Move(cell, i) => self.after_move(*cell, *i)?,
             Line::Cases(numbers) => self.cases(numbers.as_slice())?,
+            Line::Lift(i) => return self.lift(*i),
         };
         Ok(Some(given))
     }
@@ -66,8 +67,8 @@ impl Checker {
         self.between(kind, first, second, carrier)
     }
 
-    // The element that an end names; `None` exactly for a stone of the opponent.
-    fn element(&self, end: End) -> Option<u8>
+    /// The element that an end names; `None` exactly for a stone of the opponent.
+    pub fn element(&self, end: End) -> Option<u8>
         requires { IsEndOn self.now.base.board.size end }
         ensures value { result ≡ end_element (elements_at self.now) end }
         ensures range { IfSome result (λ x. x < element_count (elements_at self.now)) }

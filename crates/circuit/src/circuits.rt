@@ -3,8 +3,7 @@
 ghost use Rattle.std.specs.Prelude.{◌≤◌};
 
 use super::meshes::Mesh;
-use super::wires::put_wires;
-use conn_store::Store;
+use super::wires::{Joint, conductance};
 use hex_cells::{Cell, MOST_CELLS};
 use std::alloc::{AllocError, Global};
 
@@ -48,15 +47,30 @@ impl Circuit {
         (flow.saturating_mul(PARTS) / u64::from(self.total())).min(MOST_PART)
     }
 
-    /// Makes it the circuit of the store's player. Where he is joined, its numbers mean nothing.
-    pub fn load(&mut self, store: &Store) {
-        let elements = store.elements();
-        put_wires(store, &mut self.mesh);
-        self.mesh.solve(elements.count() as usize);
+    /// Takes all wires away.
+    pub fn clear(&mut self) {
+        self.mesh.clear();
+    }
+
+    /// Puts a wire between two elements, of which 0 and 1 are the edges, for a full connection, or
+    /// leaves the better one that is there.
+    pub fn put_wire(&mut self, x: u8, y: u8, joint: Joint) {
+        let (x, y) = if x < y { (x, y) } else { (y, x) };
+        if let Some(row) = self.mesh.wires(y as usize)
+            && let Some(wire) = row.get_mut(x as usize)
+        {
+            *wire = (*wire).max(conductance(joint));
+        }
+    }
+
+    /// Makes it the circuit of the wires that were put, between as many elements: of each the empty
+    /// cell that it is, or `None` of a group.
+    pub fn solve(&mut self, cells: &[Option<Cell>]) {
+        self.mesh.solve(cells.len());
         self.flows = [0; MOST_CELLS as usize];
-        for x in 0..elements.count() {
-            if let Some(cell) = elements.cell(x as u8) {
-                self.flows[cell.number() as usize] = self.mesh.flow(x as usize);
+        for (x, cell) in cells.iter().enumerate() {
+            if let Some(cell) = cell {
+                self.flows[cell.number() as usize] = self.mesh.flow(x);
             }
         }
     }

@@ -1,14 +1,15 @@
 //! Circuits: how near a player is to joining his edges, and by which cells.
 //!
-//! **Nouns.** A *circuit* is made of a player's report: a node for each of his elements, and a
-//! *wire* for each pair with a full entry, of a *conductance* that is greater the surer and shorter
+//! **Nouns.** A *circuit* is made of a player's connections: a node for each of his elements, and a
+//! *wire* for each pair with a full one, of a *conductance* that is greater the surer and shorter
 //! it is. A voltage stands between his two edges. The circuit's *total* is the conductance between
 //! them, and the *flow* of an empty cell the current through it. A [`Mesh`] has the wires, whatever
 //! they are made of, and finds the total and the flow of each element.
 //!
-//! **A caller** makes a [`Circuit`] once, loads it with a store again and again
-//! ([`Circuit::load`]), and reads [`Circuit::total`] and [`Circuit::part`]. One who has wires of
-//! his own puts them in a mesh ([`Mesh::wires`]) and has it solved ([`Mesh::solve`]).
+//! **A caller** makes a [`Circuit`] once. For each board he takes all wires away
+//! ([`Circuit::clear`]), puts one for each full connection ([`Circuit::put_wire`]), has it solved
+//! ([`Circuit::solve`]), and reads [`Circuit::total`] and [`Circuit::part`]. One who has other
+//! conductances puts them in a mesh ([`Mesh::wires`]) and has that solved ([`Mesh::solve`]).
 //!
 //! **What is proved.** That each call is safe and ends; a total is at least 1, and a part at most
 //! [`MOST_PART`]. So a caller may divide by it and multiply it.
@@ -38,3 +39,4 @@ mod wires;
 
 pub use circuits::{Circuit, MOST_PART};
 pub use meshes::Mesh;
+pub use wires::Joint;

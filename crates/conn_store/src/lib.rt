@@ -45,12 +45,14 @@
 mod entries;
 mod index;
 mod laws;
+mod limits;
 mod refusals;
 mod rules;
 mod stores;
 
 pub use entries::{Cause, Entry, Held, Kind, MOST_ENTRIES, MOST_FULL, MOST_SEMI, Put};
 pub use laws::{connected_edges_win, sound_entries_are_true, truth_goes_on};
+pub use limits::four_full_and_six_semi_entries_are_kept;
 pub use refusals::Memory;
 pub use rules::EntryOver;
 pub use stores::Store;

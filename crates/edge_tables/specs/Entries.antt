@@ -1,14 +1,13 @@
 -- The entries of tables, and which of them lie inside a region.
 use Rattle.std.specs.Prelude.{◌≡◌, ℕ, Bool, true, false, ◌+◌, ◌*◌, ◌^◌, ◌≤◌, ◌==◌, ◌&&◌, ◌||◌}
 use Rattle.std.specs.Prelude.{◌≢◌, ◌∷◌, ◌++◌, if◌then◌else◌, not, List, [], Option, None, Some}
-use Rattle.std.specs.Prelude.{nat_le, All, Contains, filter, fold}
+use Rattle.std.specs.Prelude.{nat_le, All, Contains, filter}
 use Rattle.std.specs.List.{list_all, list_any}
 use Rattle.std.specs.Option.{option_map_or}
 use Rattle.std.specs.Global.{Vec}
 use Rattle.indexmap.specs.IndexMap.{get}
 use Rattle.hex_cells.specs.Sets.{has, members, without_cells}
 use Rattle.hex_cells.specs.declared.board_size.TheConstants.{MOST_CELLS}
-use Rattle.hex_cells.specs.declared.colours.Colour.{Colour}
 use Rattle.edge_tables.specs.declared.entries.EdgeEntry.{EdgeEntry}
 use Rattle.edge_tables.specs.declared.entries.Key.{Key}
 use Rattle.edge_tables.specs.contracts.entries.KeyPartialEq.TheImpl as keys
@@ -64,23 +63,6 @@ newest_beside e es = filter (λ other. not (makes_needless e other)) es ++ e ∷
 abbrev pub with_newest : EdgeEntry → List EdgeEntry → List EdgeEntry
 with_newest e es = if list_any (λ other. makes_needless other e) es then es else newest_beside e es
 
--- the entries after each of the new ones was put beside them in turn
-abbrev pub with_each : List EdgeEntry → List EdgeEntry → List EdgeEntry
-with_each news es = fold (λ done e. with_newest e done) es news
-
 -- two tables differ at most in the entries of this key
 abbrev pub AgreeBut : Key → Tables → Tables → Type 0
 AgreeBut key old new = (k : Key) → k ≢ key → entries_of new k ≡ entries_of old k
-
--- two tables differ at most in the entries of this player
-abbrev pub AgreeOnOther : Colour → Tables → Tables → Type 0
-AgreeOnOther player old new = (k : Key) → k.player ≢ player → entries_of new k ≡ entries_of old k
-
--- the entries of a key, after those of this pair are put beside them if they are of the key
-abbrev pub with_pair : Key → List EdgeEntry → Key × Vec EdgeEntry → List EdgeEntry
-with_pair key es pair = if same_key pair.0 key then with_each pair.1.items es else es
-
--- the tables have of this player what they had, after these entries of keys were put in turn
-abbrev pub ArePut : Colour → List (Key × Vec EdgeEntry) → Tables → Tables → Type 0
-ArePut player pairs old new = (key : Key) → key.player ≡ player
-    → entries_of new key ≡ fold (with_pair key) (entries_of old key) pairs

@@ -18,13 +18,12 @@
 //! region that these have in common, and [`Tables::narrowest`] one of these such that none is
 //! narrower, or `None` exactly if there is none. New tables have none. [`Tables::put`] leaves the
 //! entries of each other key, and of its own key all but those that the new entry makes needless,
-//! with it as the newest, or all as they are if one of them makes it needless (`with_newest`).
-//! [`Tables::put_all`] does so with each entry of each of the player's keys (`ArePut`), and leaves
-//! the entries of the other player. A full table stays as it was. The places of a [`cover`] are
-//! places of the list, not one alone, and its carriers have no cell of the region in common. What
-//! [`by_cases`] makes has the cells and lines of entries whose carriers are such a cover
-//! (`IsByCases`, specs/Covers.antt). [`EdgeEntry::width`] is exact. Nothing says that an entry is
-//! true: a certificate that is made of them is checked.
+//! with it as the newest, or all as they are if one of them makes it needless (`with_newest`). A
+//! full table stays as it was. The places of a [`cover`] are places of the list, not one alone, and
+//! its carriers have no cell of the region in common. What [`by_cases`] makes has the cells and
+//! lines of entries whose carriers are such a cover (`IsByCases`, specs/Covers.antt).
+//! [`EdgeEntry::width`] is exact. Nothing says that an entry is true: a certificate that is made of
+//! them is checked.
 //!
 //! **What is only tested, or not said.** When a table is full: a body that always says so is
 //! proved. Which of several that are as narrow [`Tables::narrowest`] answers (the newest), and

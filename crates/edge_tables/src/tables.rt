@@ -3,13 +3,13 @@
 ghost use Rattle.std.specs.Prelude.{◌≡◌, ℕ, [], filter, reverse, IfOk, IsSome, OnOk};
 ghost use Rattle.std.specs.List.{list_any};
 ghost use Rattle.hex_cells.specs.Sets.{has};
-ghost use Rattle.edge_tables.specs.Entries.{AgreeBut, AgreeOnOther, ArePut, IsNarrowestInside};
+ghost use Rattle.edge_tables.specs.Entries.{AgreeBut, IsNarrowestInside};
 ghost use Rattle.edge_tables.specs.Entries.{entries_of, is_common, is_inside, list_of};
-ghost use Rattle.edge_tables.specs.Entries.{makes_needless, newest_beside, with_each, with_newest};
+ghost use Rattle.edge_tables.specs.Entries.{makes_needless, newest_beside, with_newest};
 
 use super::entries::{EdgeEntry, Key, add_last};
 use super::stops::FinderStop;
-use hex_cells::{CellSet, Colour};
+use hex_cells::CellSet;
 use indexmap::IndexMap;
 use std::alloc::{AllocError, Global};
 
@@ -152,32 +152,6 @@ impl Tables {
     {
         if self.known.get(key).is_none() {
             self.known.insert(*key, Vec::new(self.alloc))?;
-        }
-        Ok(())
-    }
-
-    /// Puts all entries of a player that others have.
-    pub fn put_all(&mut self, others: &Tables, player: Colour) -> Result<(), FinderStop>
-        ensures put { let pairs = others.now.known.entries in
-            OnOk result (ArePut player pairs self.old self.new) }
-        ensures other { AgreeOnOther player self.old self.new }
-    {
-        for (key, entries) in &others.known {
-            if key.player == player {
-                self.put_each(key, entries)?;
-            }
-        }
-        Ok(())
-    }
-
-    // Puts these entries of a key, one after the other.
-    fn put_each(&mut self, key: &Key, entries: &[EdgeEntry]) -> Result<(), FinderStop>
-        ensures put { let es = entries_of self.old key.now in
-            OnOk result (entries_of self.new key.now ≡ with_each entries.now es) }
-        ensures aside { AgreeBut key.now self.old self.new }
-    {
-        for entry in entries {
-            self.put(key, entry)?;
         }
         Ok(())
     }

@@ -13,7 +13,7 @@ use Rattle.tree_words.specs.Closing.{ClosedTree}
 use Rattle.hexd_args.specs.declared.settings.Options as words
 use Rattle.hex_plan.specs.Good.{IsSearchedFor, looks_ahead}
 use Rattle.hex_plan.specs.Laws.{WinsBy}
-use Rattle.hex_plan.specs.Turns.{TurnData, ChoseAmong, searched_cells}
+use Rattle.hex_plan.specs.Turns.{TurnData, IsLookedAt, searched_cells}
 use Rattle.hex_plan.specs.declared.types.Plan.{Plan}
 use Rattle.hex_plan.specs.declared.types.Plan.TheVariants.{Win, Search}
 use Rattle.hex_engine.specs.declared.options.Options.{Options}
@@ -29,12 +29,14 @@ use Rattle.hex_devices.specs.declared.ends.End.TheVariants.{Done}
 
 -- If the turn's plan is a win, its cell wins against every reply. If it is a search, the turn has a
 -- tree, which was searched for it and is closed, among the allowed cells, or, if the session looks
--- ahead, at the one of them that the look-ahead chose: the cell is the least of the root's children
--- of most visits, and with one worker the tree is the sequential definition's.
+-- ahead, at the one of them that the look-ahead chose by its rows, of which what is known is true:
+-- the cell is the least of the root's children of most visits, and with one worker the tree is the
+-- sequential definition's.
 abbrev pub WinsOrIsBest : Options → TurnData → Plan → Type 0
 WinsOrIsBest options turn (Win cert cell) = WinsBy turn.board turn.player turn.cell
 WinsOrIsBest options turn (Search threats allowed lost) =
-    (is_some turn.looked ≡ looks_ahead options.means) × ChoseAmong allowed turn.looked
+    (is_some turn.looked ≡ looks_ahead options.means)
+    × IsLookedAt turn.board turn.player allowed options.means.look turn.looked
     × (tree : ClosedTree) × (turn.closed ≡ Some tree)
     × IsSearchedFor options.knobs turn (searched_cells allowed turn.looked) tree
 

@@ -17,7 +17,7 @@ use Rattle.hex_devices.specs.declared.errors.OutputError.{OutputError}
 use Rattle.turn_modes.specs.HandingIn.{HandsIn}
 use Rattle.turn_modes.specs.declared.modes.TurnMode.TheVariants as turn
 use Rattle.turn_modes.specs.declared.options.ModeOptions.{ModeOptions}
-use Rattle.hex_devices.specs.Statuses.{end_for, end_of_answer, end_of_output}
+use Rattle.hex_devices.specs.Statuses.{end_of_outcome, end_of_answer, end_of_output}
 use Rattle.hex_devices.specs.declared.ends.End.{End}
 use Rattle.hex_cli.specs.declared.kinds.ModeKind.{ModeKind}
 use Rattle.hex_cli.specs.declared.kinds.ModeKind.TheVariants.{Session, WholeInput, OneTurn}
@@ -72,7 +72,7 @@ kind_of Solve options = WholeInput (input.Solve options.hsearch options.budget)
 
 -- Mode htp: a session of these options used up just this, and came to this end.
 abbrev pub PlaysBy : Supply → Options → End → DevicesState → DevicesState → Type 0
-PlaysBy used options end before after = (outcome : Outcome) × (end ≡ end_for outcome)
+PlaysBy used options end before after = (outcome : Outcome) × (end ≡ end_of_outcome outcome)
     × Conversed outcome (engine_options options) options.size INPUT_LIMIT used
     (shelf_and_archive before) (shelf_and_archive after) before.link after.link
 

@@ -14,9 +14,9 @@ use Rattle.hex_devices.specs.declared.ends.End.{End}
 use Rattle.hex_devices.specs.declared.ends.End.TheVariants.{Done, Rejected, Usage, Stopped}
 
 -- how a run ends whose session ended so
-abbrev pub end_for : Outcome → End
-end_for (Ok done) = Done
-end_for (Err stop) = Stopped stop
+abbrev pub end_of_outcome : Outcome → End
+end_of_outcome (Ok done) = Done
+end_of_outcome (Err stop) = Stopped stop
 
 -- how a program ends that can't have its arguments: one is no text, or memory ran out
 abbrev pub EndsWithoutArguments : End → Type 0

@@ -1,7 +1,7 @@
 //! How a run ends: its status, and the line that it gives to the errors.
 
 ghost use Rattle.std.specs.Prelude.{◌≡◌};
-ghost use Rattle.hex_devices.specs.Statuses.{end_for, end_of_answer, end_of_output};
+ghost use Rattle.hex_devices.specs.Statuses.{end_of_outcome, end_of_answer, end_of_output};
 ghost use Rattle.hex_devices.specs.Statuses.{status_of, error_line};
 
 use crate::errors::{AnswerError, OutputError};
@@ -23,7 +23,7 @@ pub enum End {
 impl End {
     /// How a run ends whose session ended so.
     pub fn of(outcome: Result<(), Stop>) -> End
-        ensures { result ≡ end_for outcome }
+        ensures { result ≡ end_of_outcome outcome }
     {
         match outcome {
             Ok(()) => End::Done,

@@ -24,7 +24,8 @@
 //! No two ends have one status (specs/Statuses.antt).
 //!
 //! **What is only tested, or not said.** That memory suffices. That after a fault nothing is read
-//! or written.
+//! or written. That [`hold_streams`] holds the standard streams that are closed, and that
+//! [`grow_stack`] leaves no signal to a search whose memory is limited.
 //!
 //! **Limits.** None of its own: each caller says the most bytes of an input.
 //!
@@ -60,7 +61,9 @@ mod faults;
 mod giving;
 mod handing;
 mod inputs;
+mod stacks;
 mod stops;
+mod streams;
 
 pub use answers::{InputAnswer, InputReader, answer_input};
 pub use arguments::arguments_of;
@@ -70,4 +73,6 @@ pub use errors::{AnswerError, InputError, OutputError};
 pub use faults::{HandingFault, ReadFault, WriteFault};
 pub use handing::hand_over;
 pub use inputs::{PIECE, take_all};
+pub use stacks::grow_stack;
 pub use stops::Stop;
+pub use streams::{HeldStreams, hold_streams};

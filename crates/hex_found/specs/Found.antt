@@ -1,5 +1,5 @@
 -- Certificates that say who wins a position p with `mover` to place next.
-use Rattle.std.specs.Prelude.{◌≡◌, ℕ}
+use Rattle.std.specs.Prelude.{◌≡◌}
 use Rattle.std.specs.Prelude.{if◌then◌else◌}
 use Rattle.hex_cells.specs.Colours.{is_same}
 use Rattle.hex_cells.specs.declared.colours.Colour.{Colour}
@@ -7,11 +7,12 @@ use Rattle.hex_board.specs.Positions.{Position}
 use Rattle.hex_board.specs.Wins.{Wins}
 use Rattle.conn_store.specs.declared.entries.Kind.{Kind}
 use Rattle.conn_store.specs.declared.entries.Kind.TheVariants.{Full, Semi}
-use Rattle.win_cert.specs.Laws.{ClaimsMove}
-use Rattle.win_cert.specs.Verdicts.{Accepted}
+use Rattle.win_cert.specs.Verdicts.{Accepted, IsVerdict}
 use Rattle.win_cert.specs.Versions.{version_for}
 use Rattle.win_cert.specs.Writable.{IsWritable}
 use Rattle.win_cert.specs.declared.certs.Cert.{Cert}
+use Rattle.win_cert.specs.declared.verdicts.Verdict.TheVariants.{Yes}
+use Rattle.hex_found.specs.declared.certificates.Found.{Found}
 
 -- what is claimed for the winner: that he wins by moving first, or even with the other to move
 abbrev pub claim_for : Colour → Colour → Kind
@@ -32,10 +33,7 @@ pub record IsCertifiedWinner (p : Position) (mover winner : Colour) (cert : Cert
   pub certified : Certifies p mover winner cert
   pub wins : Wins winner p mover
 
--- the certificate's player wins p by it
-abbrev pub IsFound : Position → Colour → Cert → Type 0
-IsFound p mover cert = IsCertifiedWinner p mover cert.player cert
-
--- if the certificate's player is to move, the line that it claims is a `move`
-abbrev pub NamesMove : Colour → Cert → Type 0
-NamesMove mover cert = cert.player ≡ mover → (k : ℕ) × ClaimsMove cert k
+-- the certificate's player wins p by it, and the carrier is that of what it claims
+pub record IsFound (p : Position) (mover : Colour) (found : Found) : Type 0 where
+  pub wins : IsCertifiedWinner p mover found.cert.player found.cert
+  pub verdict : IsVerdict found.cert (Yes found.cert.claim found.carrier)

@@ -10,25 +10,13 @@ use super::prices::{By, Way};
 use super::scenes::{Scene, Shown};
 use conn_store::Kind;
 use edge_tables::{FinderStop, Tables};
-use hex_cells::{CellSet, Size};
+use hex_cells::CellSet;
 use hex_scout::State;
-use std::alloc::Global;
+use std::alloc::{AllocError, Global};
 use std::mem::swap;
-
-// Needs are served together if that adds less than so many hundredths of what one costs alone.
-const JOINED: u64 = 70;
 
 // The place of the first need, which is what the certificate claims.
 const CLAIM: usize = 0;
-
-// Full needs that are served together.
-#[derive(Drop)]
-struct Group {
-    region: CellSet,
-    cost: u64,
-    shown: Shown,
-    needs: Vec<Need>,
-}
 
 // A scope that is being written: its place, and those of its needs that are not served.
 #[derive(Drop)]
@@ -73,56 +61,21 @@ fn show(
     writing.write(deriver, draft)
 }
 
-// The full needs in groups.
-fn groups_of(scene: &Scene, needs: &[Need]) -> Result<Vec<Group>, FinderStop> {
+// The full needs, those with fewer cells first.
+fn fulls_of(alloc: Global, needs: &[Need]) -> Result<Vec<Need>, AllocError> {
     let fulls = needs.iter().filter(|need| need.kind == Kind::Full);
-    let mut fulls: Vec<Need> = fulls.copied().collect(scene.alloc)?;
+    let mut fulls: Vec<Need> = fulls.copied().collect(alloc)?;
     fulls.sort_unstable_by_key(|need| (need.region.count(), need.region.bits(), need.place));
-    let mut groups = Vec::new(scene.alloc);
-    for need in fulls {
-        put_in_group(scene, need, &mut groups)?;
-    }
-    Ok(groups)
-}
-
-// Puts a full need into a group, or into one of its own.
-fn put_in_group(scene: &Scene, need: Need, groups: &mut Vec<Group>) -> Result<(), FinderStop> {
-    let alone = scene.cheapest(need.region)?;
-    let mut most = alone.map_or(u64::MAX, |(cost, _shown)| cost.saturating_mul(JOINED) / 100);
-    let mut best = None;
-    for (place, group) in groups.iter().enumerate() {
-        if let Some((cost, shown)) = scene.cheapest(group.region.meet(need.region))?
-            && cost.saturating_sub(group.cost) <= most
-        {
-            most = cost.saturating_sub(group.cost);
-            best = Some((place, cost, shown));
-        }
-    }
-    if let Some((place, cost, shown)) = best
-        && let Some(group) = groups.get_mut(place)
-    {
-        group.region = group.region.meet(need.region);
-        (group.cost, group.shown) = (cost, shown);
-        group.needs.push(need)?;
-        return Ok(());
-    }
-    let (cost, shown) = alone.ok_or(FinderStop::NoWay)?;
-    groups.push(Group {
-        region: need.region,
-        cost,
-        shown,
-        needs: vec![in scene.alloc; need; 1]?,
-    })?;
-    Ok(())
+    Ok(fulls)
 }
 
 impl Writing {
     // Serves all needs of the scope, and hands its lines to the draft.
     fn write(&mut self, deriver: &mut Deriver, draft: &mut Draft) -> Result<(), FinderStop> {
-        let groups = groups_of(&self.scene, &self.open)?;
+        let fulls = fulls_of(draft.alloc, &self.open)?;
         self.open.retain(|need| need.kind == Kind::Semi);
-        for group in groups {
-            self.serve_group(draft, group)?;
+        for need in fulls {
+            self.serve_full(draft, need)?;
         }
         if self.open.iter().any(|need| need.place == CLAIM) {
             self.scene.find_stone(deriver)?;
@@ -132,17 +85,18 @@ impl Writing {
         Ok(())
     }
 
-    // Serves the needs of a group.
-    fn serve_group(&mut self, draft: &mut Draft, group: Group) -> Result<(), FinderStop> {
-        let line = match group.shown {
+    // Serves a full need by what costs least.
+    fn serve_full(&mut self, draft: &mut Draft, need: Need) -> Result<(), FinderStop> {
+        let (_cost, shown) = self.scene.cheapest(need.region)?.ok_or(FinderStop::NoWay)?;
+        let line = match shown {
             Shown::Derived(place) => self.choose(place)?,
             Shown::Cases => {
-                let cases = self.scene.cases(group.region)?;
+                let cases = self.scene.cases(need.region)?;
                 let (_cost, carriers) = cases.ok_or(FinderStop::NoWay)?;
-                self.add_cases(draft, group.region, &carriers)?
+                self.add_cases(draft, &carriers)?
             }
         };
-        draft.serve(&group.needs, line);
+        draft.serve(&[need], line);
         Ok(())
     }
 
@@ -153,18 +107,11 @@ impl Writing {
         Ok(At::Derived(derived.own))
     }
 
-    // Adds a line by cases with these carriers. They are open needs, each with the wider region in
-    // which it would do.
-    fn add_cases(
-        &mut self,
-        draft: &mut Draft,
-        region: CellSet,
-        carriers: &[CellSet],
-    ) -> Result<At, FinderStop> {
+    // Adds a line by cases with these carriers, which are open needs.
+    fn add_cases(&mut self, draft: &mut Draft, carriers: &[CellSet]) -> Result<At, FinderStop> {
         let mut cases = Vec::new(draft.alloc);
-        for (place, carrier) in carriers.iter().enumerate() {
-            let mut need = draft.add_need(self.scene.stones, Kind::Semi, *carrier)?;
-            need.wide = region.minus(common_but(carriers, region, place));
+        for carrier in carriers {
+            let need = draft.add_need(self.scene.stones, Kind::Semi, *carrier)?;
             cases.push(need.place)?;
             self.open.push(need)?;
         }
@@ -180,7 +127,7 @@ impl Writing {
             let Some(way) = self.best_way() else { break };
             let served = self.open.iter().filter(|need| way.serves(need));
             let served: Vec<Need> = served.copied().collect(draft.alloc)?;
-            let line = self.line_of(draft, &way, &served)?;
+            let line = self.line_of(draft, &way)?;
             draft.serve(&served, line);
             self.open.retain(|need| !way.serves(need));
         }
@@ -208,29 +155,17 @@ impl Writing {
         best
     }
 
-    // The line of a way that serves these needs, which is chosen or added. Another stone would do
-    // inside the region in which others would for all of them.
-    fn line_of(&mut self, draft: &mut Draft, way: &Way, served: &[Need]) -> Result<At, FinderStop> {
+    // The line of a way, which is chosen or added.
+    fn line_of(&mut self, draft: &mut Draft, way: &Way) -> Result<At, FinderStop> {
         let cell = match way.by {
             By::Derived(place) => return self.choose(place),
             By::Stone(cell, _price) => cell,
         };
         let (stones, region) = (self.scene.stones.with(cell), way.carrier.without(cell));
         let need = draft.add_need(stones, Kind::Full, region)?.place;
-        let all = CellSet::all(Size::LARGEST);
-        let wide = served.iter().fold(all, |wide, need| wide.meet(need.wide));
         let block = draft.block_mut(self.scope)?;
         let line = At::Stone(block.moves.len());
-        block.moves.push(Stone { cell, need, wide })?;
+        block.moves.push(Stone { cell, need })?;
         Ok(line)
     }
-}
-
-// The cells of the region that all carriers but that at a place have in common.
-fn common_but(carriers: &[CellSet], region: CellSet, but: usize) -> CellSet {
-    let others = carriers
-        .iter()
-        .enumerate()
-        .filter(|(place, _carrier)| *place != but);
-    others.fold(region, |common, (_place, carrier)| common.meet(*carrier))
 }

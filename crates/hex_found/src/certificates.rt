@@ -1,46 +1,57 @@
 //! Certificates that are found, and checked.
 
-ghost use Rattle.std.specs.Prelude.{◌≡◌, IfOk, IfSome, IsTrue, None, Ok};
-ghost use Rattle.hex_found.specs.Found.{IsFound, NamesMove, claim_for};
+ghost use Rattle.std.specs.Prelude.{◌≡◌, ◌≤◌, IfOk, IfSome, None, Ok, length};
+ghost use Rattle.hex_found.specs.Found.{IsFound, claim_for};
 
 use super::refusals::Memory;
-use super::seeking::seek;
+use super::seeking::{Sought, seek};
 use cert_check::check;
 use conn_store::Kind;
 use hex_board::Board;
-use hex_cells::Colour;
+use hex_cells::{CellSet, Colour};
 use std::alloc::Global;
-use win_cert::{Cert, MOST_LINES, Verdict, claimed_move, is_writable, version_for};
+use win_cert::{Cert, Verdict, is_writable, version_for};
 
-/// A certificate of who wins the position, found by entering at most `budget` states. If the player
-/// to move wins, the line that it claims is a `move`. `None` if that found none, or one that is too
+/// A certificate that was found.
+#[derive(Debug, Drop)]
+pub struct Found {
+    pub cert: Cert,
+    /// The carrier of the entry that it claims.
+    pub carrier: CellSet,
+}
+
+/// What [`find`] answers.
+#[derive(Debug, Drop)]
+pub struct Findings {
+    /// The certificate, if one was found.
+    pub found: Option<Found>,
+    /// How many states were entered, whatever was found.
+    pub entered: u64,
+}
+
+/// A certificate of who wins the position, of at most so many lines, found by entering at most
+/// `budget` states, and how many were entered. There is none if that found none, or one that is too
 /// long.
 ///
-/// No clause says when a certificate is found: a body that always answers `None`, or that memory
-/// ran out, is proved, and refused by the tests.
+/// No clause says when a certificate is found: a body that never finds one, or that memory ran out,
+/// is proved, and refused by the tests.
 pub fn find(
     alloc: Global,
     board: &Board,
     mover: Colour,
     budget: u64,
-) -> Result<Option<Cert>, Memory>
-    ensures found { IfOk result (λ r. IfSome r (IsFound board.now mover)) }
-    ensures moves { IfOk result (λ r. IfSome r (NamesMove mover)) }
+    most: usize,
+) -> Result<Findings, Memory>
+    ensures found { IfOk result (λ r. IfSome r.found (IsFound board.now mover)) }
+    ensures few { IfOk result (λ r. IfSome r.found (λ found. length found.cert.lines ≤ most)) }
+    ensures within { IfOk result (λ r. r.entered ≤ budget) }
 {
-    let Some(sought) = seek(alloc, board, mover, budget, MOST_LINES)?.cert else {
-        return Ok(None);
+    let Sought { cert, entered, .. } = seek(alloc, board, mover, budget)?;
+    let found = match cert {
+        Some(cert) if cert.lines.as_slice().len() <= most => certified(alloc, board, mover, cert)?,
+        _ => None,
     };
-    let Some(cert) = certified(alloc, board, mover, sought)? else {
-        return Ok(None);
-    };
-    Ok(names_move(&cert, mover).then_some(cert))
-}
-
-// Whether the certificate claims a `move`, if its player is to move.
-fn names_move(cert: &Cert, mover: Colour) -> bool
-    ensures { IsTrue result → NamesMove mover cert.now }
-{
-    cert.player != mover || claimed_move(cert).is_some()
+    Ok(Findings { found, entered })
 }
 
 /// What is claimed for a winner: that he wins by moving first, or even with the other to move.
@@ -63,8 +74,9 @@ pub fn certified(
     board: &Board,
     mover: Colour,
     cert: Cert,
-) -> Result<Option<Cert>, Memory>
+) -> Result<Option<Found>, Memory>
     ensures found { IfOk result (λ r. IfSome r (IsFound board.now mover)) }
+    ensures same { IfOk result (λ r. IfSome r (λ found. found.cert ≡ cert)) }
 {
     let is_claimed = cert.claim == claim_for(cert.player, mover);
     let has_version = cert.version == version_for(cert.lines.as_slice());
@@ -72,7 +84,7 @@ pub fn certified(
         return Ok(None);
     }
     match check(alloc, &cert)? {
-        Verdict::Yes { .. } => Ok(Some(cert)),
+        Verdict::Yes { carrier, .. } => Ok(Some(Found { cert, carrier })),
         Verdict::No { .. } => Ok(None),
     }
 }

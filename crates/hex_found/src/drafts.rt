@@ -7,7 +7,7 @@ use hex_cells::{Cell, CellSet, Colour};
 use indexmap::IndexMap;
 use std::alloc::{AllocError, Global};
 
-/// The most needs of a draft, and so the most scopes: more than a certificate may have lines.
+/// The most needs of a draft, and so the most scopes: no certificate has more lines.
 pub(crate) const MOST_NEEDS: usize = 1_000_000;
 
 /// A line of a scope, by the list where it stands, and its place there.
@@ -28,8 +28,6 @@ pub(crate) struct Need {
     pub place: usize,
     pub kind: Kind,
     pub region: CellSet,
-    /// The region in which another entry would do.
-    pub wide: CellSet,
     /// The place of the scope.
     pub scope: usize,
     /// The line that shows it, once it is served.
@@ -42,8 +40,6 @@ pub(crate) struct Stone {
     pub cell: Cell,
     /// The need that shows it, in the scope with this stone more.
     pub need: usize,
-    /// The region in which another stone would do.
-    pub wide: CellSet,
 }
 
 /// A scope, and its lines: those of its pool that are chosen, then stones, then cases.
@@ -110,7 +106,6 @@ impl Draft {
             place,
             kind,
             region,
-            wide: region,
             scope,
             line: None,
         };
@@ -145,27 +140,11 @@ impl Draft {
         }
     }
 
-    /// How many lines the certificate has: those of the scopes, and one more for each.
-    pub(crate) fn line_count(&self) -> usize {
-        let counts = self.blocks.values().map(|block| block.line_count());
-        counts.fold(self.blocks.len(), |sum, count| sum.saturating_add(count))
-    }
-
     /// The needs of the scope at a place.
     pub(crate) fn needs_of(&self, scope: usize) -> Result<Vec<Need>, FinderStop> {
         let (_stones, block) = self.blocks.get_index(scope).ok_or(FinderStop::NoWay)?;
         let places = block.needs.iter();
         let needs = places.filter_map(|place| self.needs.get(*place).copied());
         Ok(needs.collect(self.alloc)?)
-    }
-}
-
-impl Block {
-    /// How many lines the scope has.
-    pub(crate) fn line_count(&self) -> usize {
-        let derived = self.pool.chosen.iter().filter(|chosen| **chosen).count();
-        derived
-            .saturating_add(self.moves.len())
-            .saturating_add(self.cases.len())
     }
 }

@@ -1,15 +1,40 @@
-//! A draft as a certificate: its lines in their order, by their numbers.
+//! The lines of a draft, one after another.
 
-use super::certificates::claim_for;
 use super::drafts::{At, Block, Draft};
-use super::pools::{Places, Step};
+use super::pools::Step;
 use edge_reach::{End, Rule};
-use hex_cells::{Cell, MOST_CELLS};
-use hex_scout::State;
+use hex_cells::{Cell, CellSet};
 use std::alloc::{AllocError, Global};
-use win_cert::{Cert, End as CertEnd, Line, Lines, Numbers, version_for};
 
-// The numbers of a scope's lines: of each line of its pool, that of a chosen one its own, and of
+/// How a line follows from those that it takes.
+#[derive(Clone, Copy, Debug, PartialEq, Eq)]
+pub(crate) enum How {
+    /// It takes none: the elements lie side by side.
+    Adj(End, End),
+    /// By a rule, from entries of the same scope.
+    By(Rule),
+    /// By a stone on the cell.
+    Stone(Cell),
+    /// By cases.
+    Cases,
+}
+
+/// A line: the player's stones in its scope, and the places of the lines before it that it takes.
+#[derive(Debug, Drop)]
+pub(crate) struct Row {
+    pub stones: CellSet,
+    pub how: How,
+    pub takes: Vec<usize>,
+}
+
+/// The lines, and the place of the one that is claimed.
+#[derive(Drop)]
+pub(crate) struct Rows {
+    pub list: Vec<Row>,
+    pub claim: usize,
+}
+
+// The places of a scope's lines: of each line of its pool, that of a chosen one its own, and of
 // the first line by a stone and the first by cases.
 #[derive(Drop)]
 struct Layout {
@@ -18,24 +43,26 @@ struct Layout {
     cases: usize,
 }
 
-/// The certificate that says that the draft's player wins at the root. Scopes come from the last to
-/// the first, so what a line names comes before it.
-pub(crate) fn cert_of(draft: &Draft, root: &State) -> Result<Cert, AllocError> {
-    let layouts = layouts_of(draft)?;
-    let mut lines = Vec::new(draft.alloc);
-    let stones = root.board.stones(draft.player);
-    for (block, layout) in draft.blocks.values().zip(layouts.iter()).rev() {
-        lines.push(Line::Put(block.stones.minus(stones)))?;
-        push_block(draft, &layouts, block, layout, &mut lines)?;
+impl Row {
+    /// The stones with which it takes entries if it is written with these.
+    pub(crate) fn taking(&self, stones: CellSet) -> CellSet {
+        match self.how {
+            How::Stone(cell) => stones.with(cell),
+            _ => stones,
+        }
     }
-    Ok(Cert {
-        version: version_for(&lines),
-        board: root.board,
-        player: draft.player,
-        lines: Lines::of(lines),
-        claim: claim_for(draft.player, root.mover),
-        entry: need_number(draft, &layouts, 0),
-    })
+}
+
+/// The lines of a draft. Scopes come from the last to the first, so what a line takes comes before
+/// it.
+pub(crate) fn rows_of(draft: &Draft) -> Result<Rows, AllocError> {
+    let layouts = layouts_of(draft)?;
+    let mut list = Vec::new(draft.alloc);
+    for (block, layout) in draft.blocks.values().zip(layouts.iter()).rev() {
+        push_block(draft, &layouts, block, layout, &mut list)?;
+    }
+    let claim = place_of(draft, &layouts, 0);
+    Ok(Rows { list, claim })
 }
 
 // The layout of each scope.
@@ -43,8 +70,7 @@ fn layouts_of(draft: &Draft) -> Result<Vec<Layout>, AllocError> {
     let mut layouts = Vec::new(draft.alloc);
     let mut end = 0usize;
     for block in draft.blocks.values().rev() {
-        // The `put` comes first.
-        let layout = layout_of(draft.alloc, block, end.saturating_add(1))?;
+        let layout = layout_of(draft.alloc, block, end)?;
         end = layout.cases.saturating_add(block.cases.len());
         layouts.push(layout)?;
     }
@@ -52,7 +78,7 @@ fn layouts_of(draft: &Draft) -> Result<Vec<Layout>, AllocError> {
     Ok(layouts)
 }
 
-// The layout of a scope whose first line has this number.
+// The layout of a scope whose first line has this place.
 fn layout_of(alloc: Global, block: &Block, first: usize) -> Result<Layout, AllocError> {
     let mut derived = Vec::new(alloc);
     let mut next = first;
@@ -67,20 +93,19 @@ fn layout_of(alloc: Global, block: &Block, first: usize) -> Result<Layout, Alloc
     })
 }
 
-// The number of the line that shows a need; too great a one if it isn't served.
-fn need_number(draft: &Draft, layouts: &[Layout], need: usize) -> u32 {
-    number_of(draft, layouts, need).unwrap_or(u32::MAX)
+// The place of the line that shows a need; past the last if it isn't served.
+fn place_of(draft: &Draft, layouts: &[Layout], need: usize) -> usize {
+    served_at(draft, layouts, need).unwrap_or(usize::MAX)
 }
 
-fn number_of(draft: &Draft, layouts: &[Layout], need: usize) -> Option<u32> {
+fn served_at(draft: &Draft, layouts: &[Layout], need: usize) -> Option<usize> {
     let need = draft.needs.get(need)?;
     let layout = layouts.get(need.scope)?;
-    let number = match need.line? {
+    Some(match need.line? {
         At::Derived(place) => *layout.derived.get(place)?,
         At::Stone(place) => layout.moves.saturating_add(place),
         At::Cases(place) => layout.cases.saturating_add(place),
-    };
-    u32::try_from(number).ok()
+    })
 }
 
 // The lines of a scope.
@@ -89,48 +114,36 @@ fn push_block(
     layouts: &[Layout],
     block: &Block,
     layout: &Layout,
-    lines: &mut Vec<Line>,
+    list: &mut Vec<Row>,
 ) -> Result<(), AllocError> {
+    let stones = block.stones;
     for (step, is_chosen) in block.pool.steps.iter().zip(block.pool.chosen.iter()) {
         if *is_chosen {
-            lines.push(line_of(draft.alloc, layout, *step)?)?;
+            let (how, takes) = derived(draft.alloc, layout, *step)?;
+            list.push(Row { stones, how, takes })?;
         }
     }
     for stone in block.moves.iter() {
-        lines.push(Line::Move(stone.cell, need_number(draft, layouts, stone.need)))?;
+        let takes = vec![in draft.alloc; place_of(draft, layouts, stone.need); 1]?;
+        let how = How::Stone(stone.cell);
+        list.push(Row { stones, how, takes })?;
     }
     for cases in block.cases.iter() {
-        let numbers = cases.iter().map(|need| need_number(draft, layouts, *need));
-        let mut numbers: Vec<u32> = numbers.collect(draft.alloc)?;
-        numbers.sort_unstable();
-        numbers.dedup();
-        lines.push(Line::Cases(Numbers::of(numbers)))?;
+        let takes = cases.iter().map(|need| place_of(draft, layouts, *need));
+        let (how, takes) = (How::Cases, takes.collect(draft.alloc)?);
+        list.push(Row { stones, how, takes })?;
     }
     Ok(())
 }
 
-// A derived line.
-fn line_of(alloc: Global, layout: &Layout, step: Step) -> Result<Line, AllocError> {
-    let (rule, premises) = match step {
-        // The edges lie side by side only where the player is joined, and no `adj` says that.
-        Step::Adj(End::First, End::Second) => return Ok(Line::Done),
-        Step::Adj(x, y) => return Ok(Line::Adj(end_of(x), end_of(y))),
-        Step::By(rule, premises) => (rule, Places::at(&layout.derived, premises.as_slice())),
-    };
-    Ok(match (rule, premises.as_slice()) {
-        (Rule::And, [i, j]) => Line::And(*i, *j),
-        (Rule::Key, [i, j]) => Line::Key(*i, *j),
-        (_, [i, j]) => Line::Or2(*i, *j),
-        (_, [i, j, k]) => Line::Or3(*i, *j, *k),
-        (_, numbers) => Line::OrMany(Numbers::of(numbers.to_vec(alloc)?)),
-    })
-}
-
-// An end in a certificate.
-fn end_of(end: End) -> CertEnd {
-    match end {
-        End::First => CertEnd::First,
-        End::At(number) if number < MOST_CELLS => CertEnd::At(Cell::numbered(number)),
-        _ => CertEnd::Second,
+// How a derived line follows, and what it takes.
+fn derived(alloc: Global, layout: &Layout, step: Step) -> Result<(How, Vec<usize>), AllocError> {
+    match step {
+        Step::Adj(x, y) => Ok((How::Adj(x, y), Vec::new(alloc))),
+        Step::By(rule, premises) => {
+            let places = premises.as_slice().iter();
+            let takes = places.filter_map(|place| layout.derived.get(*place as usize).copied());
+            Ok((How::By(rule), takes.collect(alloc)?))
+        }
     }
 }

@@ -260,7 +260,7 @@ rests_outside board player threats allowed lost i threat k on (inr (inr (is, l))
 pub plan_loses_outside : HoldsOfPlans LosesOutsideCarriers
 plan_loses_outside board player means p on h threats allowed lost q i threat s k empty out
     = rests_outside board player threats allowed lost i threat k on
-    (search_rests board player means.hsearch means.solve p threats allowed lost h q) s empty out
+    (search_rests board player means.hsearch means.solve p threats allowed lost h.rests q) s empty out
 
 pub outside_loses : (knobs : Knobs) (means : Means) (t : TurnData) → IsGood knobs means t
     → LosesOutsideThreats t
@@ -298,7 +298,7 @@ rests_lost board player threats allowed k on (inr (inr (is, l))) empty = absurd 
 pub plan_loses : HoldsOfPlans LosesAsPlanned
 plan_loses board player means p on h threats allowed q k empty
     = rests_lost board player threats allowed k on
-    (search_rests board player means.hsearch means.solve p threats allowed true h q) empty
+    (search_rests board player means.hsearch means.solve p threats allowed true h.rests q) empty
 
 pub lost_loses : (knobs : Knobs) (means : Means) (t : TurnData) → IsGood knobs means t
     → LosesWhereLost t

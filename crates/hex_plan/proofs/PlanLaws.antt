@@ -20,8 +20,8 @@ use Rattle.win_cert.specs.declared.certs.Cert.{Cert}
 use Rattle.win_cert.specs.Laws.{WinsByCell}
 use Rattle.win_cert.specs.Writable.{IsWritable}
 use Rattle.win_cert.proofs.ClaimedMoves.{move_wins}
-use Rattle.hex_plan.specs.Good.{FollowsPlan, IsGood, IsSearchedFor, IsSequential, IsTurnShape}
-use Rattle.hex_plan.specs.Good.{looks_ahead}
+use Rattle.hex_plan.specs.Good.{FollowsPlan, IsGood, IsLookedFor, IsSearchedFor, IsSequential}
+use Rattle.hex_plan.specs.Good.{IsTurnShape, looks_ahead}
 use Rattle.hex_plan.specs.Plans.{IsCertifiedWin, IsFoundPlan, IsFoundWin, IsPlanned, IsPlannedBy}
 use Rattle.hex_plan.specs.Plans.{IsPlannedFor, IsWinBy, IsWinningCell}
 use Rattle.hex_plan.specs.Turns.{TurnData, Decides, DecidesBy, IsDecided, IsSearchedBy}
@@ -65,7 +65,7 @@ won_for board player false solve p k h w
 pub planned_win : (board : Position) (player : Colour) (means : Means) (p : Planned) (k : ℕ)
     → IsPlanned board player means p → IsWinBy p.plan k → WonBy board player p.plan k
 planned_win board player means p k h w
-    = won_for board player means.hsearch means.solve p k h w
+    = won_for board player means.hsearch means.solve p k h.rests w
 
 -- the board is one
 abbrev pub IsBoard : Position → Type 0
@@ -148,11 +148,11 @@ decided_by_search t (Search threats allowed lost) tree e b p best h = λ other i
 
 pub follows_search : (knobs : Knobs) (means : Means) (t : TurnData) (plan : Plan)
     (tree : ClosedTree) → t.closed ≡ Some tree → IsSearchedBy plan t.looked tree.shape.allowed
-    → is_some t.looked ≡ looks_ahead means
+    → is_some t.looked ≡ looks_ahead means → IsLookedFor t.board t.player plan means.look t.looked
     → IsSearchedFor knobs t tree.shape.allowed tree → FollowsPlan knobs means t plan
-follows_search knobs means t (Win cert cell) tree e h l s = absurd h
-follows_search knobs means t (Search threats allowed lost) tree e h l s
-    = (l, h.0, tree, e, subst (λ c. IsSearchedFor knobs t c tree) h.1 s)
+follows_search knobs means t (Win cert cell) tree e h l looked s = absurd h
+follows_search knobs means t (Search threats allowed lost) tree e h l looked s
+    = (l, looked allowed refl, tree, e, subst (λ c. IsSearchedFor knobs t c tree) h.1 s)
 
 -- a turn that a tree decides is good
 pub good_search : (knobs : Knobs) (means : Means) (t : TurnData) (tree : ClosedTree)
@@ -163,9 +163,10 @@ pub good_search : (knobs : Knobs) (means : Means) (t : TurnData) (tree : ClosedT
     → IsPlanned tree.shape.board tree.shape.player means t.planned
     → IsSearchedBy t.planned.plan t.looked tree.shape.allowed
     → is_some t.looked ≡ looks_ahead means
+    → IsLookedFor tree.shape.board tree.shape.player t.planned.plan means.look t.looked
     → IsTurnShape knobs tree.shape.board tree.shape.player t.number tree.shape.allowed tree.shape
     → IsSequential knobs tree → IsGood knobs means t
-good_search knobs means t tree e b p set closed best empty n h cells looked shape one =
+good_search knobs means t tree e b p set closed best empty n h cells looked looks shape one =
     let is = set.position in
     record {
       position = subst (λ (z : Position). IsPosition z.size z.black z.white) (sym b) is;
@@ -173,16 +174,19 @@ good_search knobs means t tree e b p set closed best empty n h cells looked shap
       empty = ap (λ (z : Position). is_empty_at z t.cell) b ∙ empty;
       planned = subst (λ z. IsPlanned z t.player means t.planned) (sym b)
           (subst (λ c. IsPlanned tree.shape.board c means t.planned) (sym p) h);
-      follows = follows_search knobs means t t.planned.plan tree e cells looked (record {
-        shape = subst (λ z. IsTurnShape knobs z t.player t.number tree.shape.allowed tree.shape)
-            (sym b)
-            (subst (λ c. IsTurnShape knobs tree.shape.board c t.number tree.shape.allowed tree.shape)
-            (sym p) shape);
-        setting = set;
-        closed = closed;
-        best = best;
-        sequential = one;
-      });
+      follows = follows_search knobs means t t.planned.plan tree e cells looked
+          (subst (λ z. IsLookedFor z t.player t.planned.plan means.look t.looked) (sym b)
+          (subst (λ c. IsLookedFor tree.shape.board c t.planned.plan means.look t.looked) (sym p)
+          looks)) (record {
+            shape = subst (λ z. IsTurnShape knobs z t.player t.number tree.shape.allowed tree.shape)
+                (sym b)
+                (subst (λ c. IsTurnShape knobs tree.shape.board c t.number tree.shape.allowed tree.shape)
+                (sym p) shape);
+            setting = set;
+            closed = closed;
+            best = best;
+            sequential = one;
+          });
     }
 
 -- the tree of a turn is one of its board and player

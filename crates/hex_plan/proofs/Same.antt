@@ -93,7 +93,7 @@ bare knobs false solve look t off h f =
 pub is_bare : (knobs : Knobs) (means : Means) (t : TurnData) → means.hsearch ≡ false
     → IsGood knobs means t → IsBare knobs t
 is_bare knobs means t off g
-    = bare knobs means.hsearch means.solve means.look t off g.planned g.follows
+    = bare knobs means.hsearch means.solve means.look t off g.planned.rests g.follows
 
 rows_in_tree : (knobs : Knobs) (t : TurnData) (cells : ℕ) (c : ClosedTree) → knobs.workers ≡ 1
     → IsSearchedFor knobs t cells c → rows_of c.shape c.words ≡ rows_in (seq_of c.shape).0

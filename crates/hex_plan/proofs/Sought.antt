@@ -1,10 +1,12 @@
 -- What is planned with a budget for certificates.
-use Rattle.std.proofs.Common.{◌≡◌, ◌⊎◌, ◌<◌, ℕ, Bool, true, inl, inr, zero, suc, arith}
-use Rattle.std.specs.Prelude.{IfOk, Ok, Err, Result}
+use Rattle.std.proofs.Common.{◌≡◌, ◌⊎◌, ◌<◌, ◌≤◌, ℕ, Bool, true, inl, inr, zero, suc, arith}
+use Rattle.std.proofs.Common.{subst, sym}
+use Rattle.std.specs.Prelude.{IfOk, Ok, Err, Result, if◌then◌else◌}
 use Rattle.hex_cells.specs.declared.colours.Colour.{Colour}
 use Rattle.hex_board.specs.Positions.{Position}
-use Rattle.hex_plan.specs.Plans.{IsConnected, IsPlannedFor, IsSolved}
+use Rattle.hex_plan.specs.Plans.{IsConnected, IsPlanned, IsPlannedFor, IsSolved}
 use Rattle.hex_plan.specs.declared.plans.Planned.{Planned}
+use Rattle.hex_plan.specs.declared.settings.Means.{Means}
 
 -- whatever the budget, a plan may rest on connections
 sought : (solve : ℕ) (board : Position) (player : Colour) (p : Planned)
@@ -29,3 +31,20 @@ pub rests : (solve : ℕ) (board : Position) (player : Colour) (p : Planned)
     → IsPlannedFor board player true solve p → IsConnected board player p ⊎ IsSolved board player p
 rests zero board player p h = inl h
 rests (suc n) board player p h = h
+
+-- where no position was entered, at most any number were
+pub none_within : {E : Type 0} (most : ℕ) (r : Result Planned E)
+    → IfOk r (λ (p : Planned). p.entered ≡ 0) → IfOk r (λ (p : Planned). p.entered ≤ most)
+none_within most (Ok p) h = let none : p.entered ≡ 0 = h in omega (arith, none)
+none_within most (Err e) h = tt
+
+-- with a look for connections, a plan and what was entered for it make what is planned
+pub if_planned : {E : Type 0} (means : Means) (board : Position) (player : Colour)
+    (r : Result Planned E) → means.hsearch ≡ true
+    → IfOk r (IsPlannedFor board player true means.solve)
+    → IfOk r (λ (p : Planned). p.entered ≤ means.solve) → IfOk r (IsPlanned board player means)
+if_planned means board player (Ok p) on h w = record {
+  rests = subst (λ (b : Bool). IsPlannedFor board player b means.solve p) (sym on) h;
+  within = subst (λ (b : Bool). p.entered ≤ (if b then means.solve else 0)) (sym on) w;
+}
+if_planned means board player (Err e) on h w = tt

@@ -25,7 +25,7 @@ use Rattle.conn_store.proofs.Sureness.{in_union, more_stones, same, sure_both, s
 use Rattle.conn_store.proofs.Sureness.{sure_wider, union_left, union_right}
 use Rattle.conn_store.proofs.Ways.{linked_cell, linked_kept}
 use Rattle.conn_store.proofs.Winning.{Joins, sure_wins, still_empty, rest_empty}
-use Rattle.win_cert.proofs.CutShown.{between_edges}
+use Rattle.win_cert.proofs.CutEnds.{between_edges}
 
 -- the player's two edges
 abbrev pub EdgesLink : PlayerBoard → ℕ → Type 0

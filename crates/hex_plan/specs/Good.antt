@@ -11,9 +11,9 @@ use Rattle.tree_words.specs.Roots.{IsBest}
 use Rattle.tree_words.specs.Sequence.{seq_of}
 use Rattle.tree_words.specs.Trees.{IsTreeOf}
 use Rattle.look_ahead.specs.Looked.{LookedData}
-use Rattle.hex_plan.specs.Plans.{IsPlanned}
+use Rattle.hex_plan.specs.Plans.{IsPlanned, IsSearchAmong}
 use Rattle.hex_plan.specs.Seeds.{turn_knobs}
-use Rattle.hex_plan.specs.Turns.{TurnData, ChoseAmong, searched_cells}
+use Rattle.hex_plan.specs.Turns.{TurnData, IsLookedAt, searched_cells}
 use Rattle.hex_plan.specs.declared.settings.Means.{Means}
 use Rattle.hex_plan.specs.declared.plans.Planned.{Planned}
 use Rattle.hex_plan.specs.declared.types.Plan.{Plan}
@@ -55,12 +55,13 @@ looks_ahead means = means.hsearch && nat_lt 0 means.look
 
 -- the turn is decided as planned: by the cell of a win, without a look-ahead or a tree; or by a
 -- tree that was searched for it, among the allowed cells, or at the one of these that the
--- look-ahead chose
+-- look-ahead chose by its rows
 abbrev pub FollowsPlan : Knobs → Means → TurnData → Plan → Type 0
 FollowsPlan knobs means t (Win cert cell) =
     (t.looked ≡ None) × (t.closed ≡ None) × (t.cell ≡ cell)
 FollowsPlan knobs means t (Search threats allowed lost) =
-    (is_some t.looked ≡ looks_ahead means) × ChoseAmong allowed t.looked
+    (is_some t.looked ≡ looks_ahead means)
+    × IsLookedAt t.board t.player allowed means.look t.looked
     × (tree : ClosedTree) × (t.closed ≡ Some tree)
     × IsSearchedFor knobs t (searched_cells allowed t.looked) tree
 
@@ -79,14 +80,22 @@ abbrev pub IsGoodAsPlanned : TurnData → Position → Colour → Planned → Ty
 IsGoodAsPlanned t board player planned = (knobs : Knobs) (means : Means)
     → winner_of board ≡ None → IsPlanned board player means planned → IsGood knobs means t
 
+-- what the look-ahead found, if there was one, is a look-ahead's of the cells that the plan allows,
+-- with this budget
+abbrev pub IsLookedFor : Position → Colour → Plan → ℕ → Option LookedData → Type 0
+IsLookedFor board player plan budget looked = (allowed : ℕ) → IsSearchAmong plan allowed
+    → IsLookedAt board player allowed budget looked
+
 -- the turn with this number, which was planned so, and which the tree decides after this look-
 -- ahead, is good if no player is joined on the tree's board, the plan is one for this board and
--- player, there was a look-ahead exactly if the means have one, and the tree's shape is that of the
--- turn; for one worker the tree has to be that of Seq
+-- player, there was a look-ahead exactly if the means have one, it is one of what is allowed, with
+-- the means' budget, and the tree's shape is that of the turn; for one worker the tree has to be
+-- that of Seq
 abbrev pub IsGoodAsSearched : TurnData → ℕ → Planned → Option LookedData → ClosedTree → Type 0
 IsGoodAsSearched t number planned looked tree = (knobs : Knobs) (means : Means)
     → winner_of tree.shape.board ≡ None
     → IsPlanned tree.shape.board tree.shape.player means planned
     → is_some looked ≡ looks_ahead means
+    → IsLookedFor tree.shape.board tree.shape.player planned.plan means.look looked
     → IsTurnShape knobs tree.shape.board tree.shape.player number tree.shape.allowed tree.shape
     → IsSequential knobs tree → IsGood knobs means t

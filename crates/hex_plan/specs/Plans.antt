@@ -1,5 +1,6 @@
 -- What is planned before a search: a certified win, or the cells among which is searched.
-use Rattle.std.specs.Prelude.{◌≡◌, ◌<◌, ◌↔◌, ◌⊎◌, ℕ, Bool, true, false, zero, suc}
+use Rattle.std.specs.Prelude.{◌≡◌, ◌<◌, ◌≤◌, ◌↔◌, ◌⊎◌, ℕ, Bool, true, false, zero, suc}
+use Rattle.std.specs.Prelude.{if◌then◌else◌}
 use Rattle.std.specs.Prelude.{List, [], ◌∷◌, Option, Some, None, All}
 use Rattle.std.specs.List.{slice_get}
 use Rattle.hex_cells.specs.Colours.{other_of}
@@ -173,9 +174,16 @@ IsPlannedFor board player true zero p = IsConnected board player p
 IsPlannedFor board player true (suc less) p =
     IsConnected board player p ⊎ IsSolved board player p
 
--- what is planned with these means on the board for the player to move
-abbrev pub IsPlanned : Position → Colour → Means → Planned → Type 0
-IsPlanned board player means p = IsPlannedFor board player means.hsearch means.solve p
+-- how many positions the solver may enter with these means: none if no connections are looked for
+abbrev pub most_entered : Means → ℕ
+most_entered means = if means.hsearch then means.solve else 0
+
+-- what is planned with these means on the board for the player to move, by entering at most as many
+-- positions as they say
+pub record IsPlanned (board : Position) (player : Colour) (means : Means)
+    (p : Planned) : Type 0 where
+  pub rests : IsPlannedFor board player means.hsearch means.solve p
+  pub within : p.entered ≤ most_entered means
 
 -- the plan is a win
 abbrev pub IsWin : Plan → Type 0

@@ -77,11 +77,20 @@ outcome_text None = []
 outcome_text (Some Won) = codes " won"
 outcome_text (Some Lost) = codes " lost"
 
--- of a cell of the board a line feed, its vertex, its nodes, its value, and who wins
+-- of a cell of the board a space and its vertex
+abbrev pub move_text : ℕ → ℕ → List ℕ
+move_text size k = if nat_lt k (size * size) then 32 ∷ vertex_of size k else []
+
+-- of a line that has moves `line` and its moves in turn
+abbrev pub line_text : ℕ → List ℕ → List ℕ
+line_text size [] = []
+line_text size (k ∷ ks) = codes " line" ++ flat_map (move_text size) (k ∷ ks)
+
+-- of a cell of the board a line feed, its vertex, its nodes, its value, who wins, and its line
 abbrev pub look_line : ℕ → LookRow → List ℕ
 look_line size row = if nat_lt row.cell (size * size)
     then 10 ∷ vertex_of size row.cell ++ 32 ∷ decimal row.nodes ++ 32 ∷ decimal row.value
-    ++ outcome_text row.known
+    ++ outcome_text row.known ++ line_text size row.line.items
     else []
 
 -- what the look-ahead of a turn found, if there was one: how many nodes it judged, and a line for

@@ -7,7 +7,7 @@ use Rattle.hex_cells.specs.declared.colours.Colour.{Colour}
 use Rattle.hex_board.specs.Positions.{Position, is_empty_at}
 use Rattle.tree_words.specs.Closing.{ClosedTree}
 use Rattle.tree_words.specs.Roots.{IsBest}
-use Rattle.look_ahead.specs.Looked.{LookedData}
+use Rattle.look_ahead.specs.Looked.{IsLookOf, LookedData}
 use Rattle.win_cert.specs.Writable.{IsWritable}
 use Rattle.hex_plan.specs.declared.types.Plan.{Plan}
 use Rattle.hex_plan.specs.declared.types.Plan.TheVariants.{Win, Search}
@@ -33,6 +33,13 @@ searched_cells allowed (Some looked) = with_cell 0 looked.cell
 -- the look-ahead, if there was one, chose one of these cells
 abbrev pub ChoseAmong : ℕ → Option LookedData → Type 0
 ChoseAmong allowed looked = ForSome looked (λ l. has allowed l.cell ≡ true)
+
+-- what the look-ahead found, if there was one, is a look-ahead's of these cells, on which the
+-- player on the board may place, with this budget: it chose one of them
+abbrev pub IsLookedAt : Position → Colour → ℕ → ℕ → Option LookedData → Type 0
+IsLookedAt board player allowed budget None = Unit {0}
+IsLookedAt board player allowed budget (Some looked) =
+    IsLookOf board player allowed budget looked
 
 -- the plan is a search, and after this look-ahead these cells are searched
 abbrev pub IsSearchedBy : Plan → Option LookedData → ℕ → Type 0

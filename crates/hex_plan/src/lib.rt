@@ -38,7 +38,8 @@
 //!   move outside the carrier of a threat loses ([`moves_outside_a_threat_lose`]), and each move on
 //!   a lost board ([`lost_boards_lose`]). So it is of each plan, also without a turn
 //!   ([`plans_tell_who_wins`]).
-//! - With a budget of 0 a plan rests on connections alone, and without them on nothing.
+//! - With a budget of 0 a plan rests on connections alone, and without them on nothing. It tells
+//!   how many positions the solver entered, at most the budget.
 //! - The shape of a turn has the board, the player, the allowed cells, and the knobs with the seed
 //!   `S + number·2^32` modulo 2^64.
 //! - The turns that are made here are good. With one worker, if no connections are looked for, the
@@ -50,8 +51,8 @@
 //!
 //! **What is only tested, or not said.** That [`plan`], [`turn_texts`] and `MemArchive::make` get
 //! their memory; which entry a certificate is cut from if several would serve; that a report
-//! has a connection that exists; that a certificate is found; what becomes of turns in
-//! [`NoArchive`].
+//! has a connection that exists; that a certificate is found, and that each position is counted;
+//! what becomes of turns in [`NoArchive`].
 //!
 //! **Limits.** A count of faults stands still at the greatest value of a `u64`. [`plan`] and
 //! [`turn_texts`] take memory, and `MemArchive::make` takes it for all that it will hold; no other
@@ -68,7 +69,7 @@
 //!   so that `mustplay` prints it without a look into the report. `IsThreat` ties both to one semi
 //!   entry, `IsFoundThreat` to the verdict of the checker.
 //! - A certificate that was found wins by its claimed line, a `move`: the board of this line's
-//!   scope is that with the stone. The finder claims no win of the mover by another line.
+//!   scope is that with the stone. If it claims another line the plan rests on connections.
 //! - What the look-ahead found stands in the turn, so that a tree's cells are known from the turn:
 //!   the allowed ones, or the one that was chosen.
 //! - Threats are one for each carrier. Two semi entries of one pair never have one carrier, but no

@@ -2,10 +2,11 @@
 
 ghost use Rattle.std.specs.Prelude.{◌≡◌, ◌++◌, IfOk, OnOk};
 ghost use Rattle.std.specs.List.{flat_map};
-ghost use Rattle.hex_plan.specs.TurnTexts.{look_line, look_of, outcome_text};
+ghost use Rattle.hex_plan.specs.TurnTexts.{line_text, look_line, look_of, move_text};
+ghost use Rattle.hex_plan.specs.TurnTexts.{outcome_text};
 
 use super::report_texts::push_vertex;
-use hex_cells::{Size, push_number};
+use hex_cells::{Cell, Size, push_number};
 use look_ahead::{LookRow, Looked, Outcome};
 use std::alloc::{AllocError, Global};
 
@@ -34,7 +35,8 @@ fn push_look_rows(
     Ok(())
 }
 
-// A line feed, and the vertex, nodes, value and outcome of a row, if its cell is one of the board.
+// A line feed, and the vertex, nodes, value, outcome and line of a row, if its cell is one of the
+// board.
 fn push_look_row(
     alloc: Global,
     text: &mut Vec<u8>,
@@ -51,6 +53,7 @@ fn push_look_row(
         text.push(b' ')?;
         push_number(alloc, text, u64::from(row.value))?;
         push_outcome(text, row.known)?;
+        push_moves(text, &row.line, size)?;
     }
     Ok(())
 }
@@ -64,4 +67,36 @@ fn push_outcome(text: &mut Vec<u8>, known: Option<Outcome>) -> Result<(), AllocE
         Some(Outcome::Won) => text.extend_from_slice(b" won"),
         Some(Outcome::Lost) => text.extend_from_slice(b" lost"),
     }
+}
+
+// `line` and the moves of a row's line, if it has any.
+fn push_moves(text: &mut Vec<u8>, moves: &[Cell], size: Size) -> Result<(), AllocError>
+    ensures { OnOk result (text.new.items ≡ text.old.items ++ line_text size moves.now) }
+{
+    if moves.is_empty() {
+        return Ok(());
+    }
+    text.extend_from_slice(b" line")?;
+    push_each_move(text, moves, size)
+}
+
+// Each of these moves.
+fn push_each_move(text: &mut Vec<u8>, moves: &[Cell], size: Size) -> Result<(), AllocError>
+    ensures { OnOk result (text.new.items ≡ text.old.items ++ flat_map (move_text size) moves.now) }
+{
+    'moves: for cell in moves {
+        push_move(text, *cell, size)?;
+    }
+    Ok(())
+}
+
+// The vertex of a move after a space, if its cell is one of the board.
+fn push_move(text: &mut Vec<u8>, cell: Cell, size: Size) -> Result<(), AllocError>
+    ensures { OnOk result (text.new.items ≡ text.old.items ++ move_text size cell) }
+{
+    if u32::from(cell.number()) < size.cells() {
+        text.push(b' ')?;
+        push_vertex(text, cell, size)?;
+    }
+    Ok(())
 }

@@ -1,6 +1,6 @@
 //! What is planned on a board.
 
-ghost use Rattle.std.specs.Prelude.{◌≡◌, ℕ, IfOk, None, true, false};
+ghost use Rattle.std.specs.Prelude.{◌≡◌, ◌≤◌, ℕ, IfOk, None, true, false};
 ghost use Rattle.hex_board.specs.Joined.{winner_of};
 ghost use Rattle.hex_board.specs.Positions.{is_empty_at};
 ghost use Rattle.hsearch.specs.Closed.{IsReportOf};
@@ -17,7 +17,7 @@ use super::plans::Planned;
 use super::refusals::Memory;
 use super::regions::{empties_of, mustplay_region};
 use super::settings::Means;
-use super::solving::found_plan;
+use super::solving::{Attempt, found_plan};
 use super::threats::Threats;
 use super::types::Plan;
 use super::winning::winning_cell;
@@ -34,7 +34,8 @@ use win_cert::cut;
 /// a win if the player's report has an entry between his two edges. Otherwise a certificate of who
 /// wins is looked for by entering at most `solve` positions. If the player does, the plan is a win
 /// by it; if the other one does, a search among all empty cells of a lost board. Else it is a
-/// search among the empty cells that lie in the carrier of each threat of the other player.
+/// search among the empty cells that lie in the carrier of each threat of the other player. The
+/// plan tells how many positions were entered.
 ///
 /// It refuses only if memory runs out.
 pub fn plan(alloc: Global, board: &Board, colour: Colour, means: Means) -> Result<Planned, Memory>
@@ -65,21 +66,25 @@ fn unjoined_plan(
     requires nobody { winner_of board.now ≡ None }
     requires own { IsReportOf board.now colour own }
     requires unjoined { (a : Entry) → ¬ (IsEdgeEntry own a) }
-    ensures { IfOk result (IsPlannedFor board.now colour true solve) }
+    ensures planned { IfOk result (IsPlannedFor board.now colour true solve) }
+    ensures within { IfOk result (λ planned. planned.entered ≤ solve) }
 {
-    match found_plan(alloc, board, colour, solve)? {
-        None => search_plan(alloc, board, colour, own),
+    let Attempt { plan, entered } = found_plan(alloc, board, colour, solve)?;
+    match plan {
+        None => search_plan(alloc, board, colour, own, entered),
         Some(plan) => Ok(Planned {
             plan,
             own: Some(own),
             other: None,
+            entered,
         }),
     }
 }
 
 // The plan without a look for connections.
 fn free_plan(alloc: Global, board: &Board) -> Planned
-    ensures { IsFree board.now result }
+    ensures free { IsFree board.now result }
+    ensures none { result.entered ≡ 0 }
 {
     Planned {
         plan: Plan::Search {
@@ -89,6 +94,7 @@ fn free_plan(alloc: Global, board: &Board) -> Planned
         },
         own: None,
         other: None,
+        entered: 0,
     }
 }
 
@@ -96,7 +102,8 @@ fn free_plan(alloc: Global, board: &Board) -> Planned
 fn win_plan(alloc: Global, own: Report, number: u32) -> Result<Planned, Memory>
     requires apart { are_joined own.elements ≡ false }
     requires entry { HasEdgeEntryAt own number }
-    ensures { IfOk result (IsConnected own.elements.board own.elements.player) }
+    ensures connected { IfOk result (IsConnected own.elements.board own.elements.player) }
+    ensures none { IfOk result (λ planned. planned.entered ≡ 0) }
 {
     let cert = cut(alloc, &own, number)?;
     let cell = winning_cell(&own, number);
@@ -105,15 +112,24 @@ fn win_plan(alloc: Global, own: Report, number: u32) -> Result<Planned, Memory>
         plan: Plan::Win { cert, cell },
         own: Some(own),
         other: None,
+        entered: 0,
     })
 }
 
-// The plan to search, if the player's own report has no entry between his two edges.
-fn search_plan(alloc: Global, board: &Board, colour: Colour, own: Report) -> Result<Planned, Memory>
+// The plan to search, if the player's own report has no entry between his two edges, and the solver
+// entered so many positions without finding a plan.
+fn search_plan(
+    alloc: Global,
+    board: &Board,
+    colour: Colour,
+    own: Report,
+    entered: u64,
+) -> Result<Planned, Memory>
     requires nobody { winner_of board.now ≡ None }
     requires own { IsReportOf board.now colour own }
     requires unjoined { (a : Entry) → ¬ (IsEdgeEntry own a) }
-    ensures { IfOk result (IsConnected board.now colour) }
+    ensures connected { IfOk result (IsConnected board.now colour) }
+    ensures same { IfOk result (λ planned. planned.entered ≡ entered) }
 {
     let other = connect(alloc, board, colour.other())?;
     let threats = threats_of(alloc, &other)?;
@@ -126,5 +142,6 @@ fn search_plan(alloc: Global, board: &Board, colour: Colour, own: Report) -> Res
         },
         own: Some(own),
         other: Some(other),
+        entered,
     })
 }

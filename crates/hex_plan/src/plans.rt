@@ -8,12 +8,15 @@ use hex_cells::CellSet;
 use hsearch::Report;
 
 /// A plan, and the reports that it rests on: of a win the player's own one, of a search his and
-/// that of the other player, and none if no connections were looked for.
+/// that of the other player, and none if no connections were looked for. With it stands how many
+/// positions the solver entered.
 #[derive(Drop)]
 pub struct Planned {
     pub plan: Plan,
     pub own: Option<Report>,
     pub other: Option<Report>,
+    /// How many positions the solver entered, whatever it found; 0 if it was not asked.
+    pub entered: u64,
 }
 
 impl Planned {

@@ -28,12 +28,6 @@ impl<T: Drop> From<AllocFailed<T>> for Memory {
     }
 }
 
-impl From<cert_check::Memory> for Memory {
-    fn from(_refused: cert_check::Memory) -> Memory {
-        Memory
-    }
-}
-
 impl From<hex_found::Memory> for Memory {
     fn from(_refused: hex_found::Memory) -> Memory {
         Memory

@@ -1,89 +1,99 @@
 //! Plans by certificates that are found.
 
-ghost use Rattle.std.specs.Prelude.{◌≡◌, ◌≢◌, ◌∷◌, [], IfOk, IfSome};
-ghost use Rattle.hex_found.specs.Found.{IsFound, NamesMove};
+ghost use Rattle.std.specs.Prelude.{◌≡◌, ◌≢◌, ◌≤◌, ◌∷◌, [], IfOk, IfSome};
+ghost use Rattle.hex_found.specs.Found.{IsFound};
 ghost use Rattle.hex_plan.specs.Planning.{IsFoundFor};
 ghost use Rattle.hex_plan.specs.Plans.{IsFoundPlan};
-ghost use Rattle.win_cert.specs.Verdicts.{IsVerdict};
-ghost use Rattle.win_cert.specs.Writable.{IsWritable};
-ghost use Rattle.win_cert.specs.declared.verdicts.Verdict.{Verdict};
 
 use super::refusals::Memory;
 use super::regions::empties_of;
 use super::threats::{Threat, Threats};
 use super::types::Plan;
-use cert_check::check;
 use hex_board::Board;
-use hex_cells::{CellSet, Colour};
-use hex_found::find;
+use hex_cells::Colour;
+use hex_found::{Findings, Found, find};
 use std::alloc::Global;
-use win_cert::{Cert, Verdict, claimed_move};
+use win_cert::{MOST_LINES, claimed_move};
 
-/// The plan by a certificate of who wins with `colour` to move, if one is found by entering at most
-/// `budget` positions; none is looked for with a budget of 0. If the player to move wins, it is a
-/// win by the cell of the claimed `move`; if the other player does, a search of a lost board with
-/// this threat.
+/// What came of asking the solver for a plan.
+#[derive(Drop)]
+pub(crate) struct Attempt {
+    /// The plan by a certificate, if one was found.
+    pub plan: Option<Plan>,
+    /// How many positions were entered.
+    pub entered: u64,
+}
+
+/// The plan by a certificate of who wins with `colour` to move, if one of at most [`MOST_LINES`]
+/// lines is found by entering at most `budget` positions; none is looked for with a budget of 0. If
+/// the player to move wins, it is a win by the cell of the claimed `move`, and none if no `move` is
+/// claimed; if the other player does, a search of a lost board with this threat.
 ///
-/// It refuses only if memory runs out. No clause says when one is found: a body that always answers
-/// `None` is proved.
+/// It refuses only if memory runs out. No clause says when one is found: a body that never answers
+/// a plan is proved.
 pub(crate) fn found_plan(
     alloc: Global,
     board: &Board,
     colour: Colour,
     budget: u32,
-) -> Result<Option<Plan>, Memory>
-    ensures { IfOk result (λ r. IfSome r (IsFoundFor board.now colour budget)) }
+) -> Result<Attempt, Memory>
+    ensures found { IfOk result (λ r. IfSome r.plan (IsFoundFor board.now colour budget)) }
+    ensures within { IfOk result (λ r. r.entered ≤ budget) }
 {
     if budget == 0 {
-        return Ok(None);
+        return Ok(Attempt {
+            plan: None,
+            entered: 0,
+        });
     }
-    let Some(cert) = find(alloc, board, colour, u64::from(budget))? else {
-        return Ok(None);
-    };
-    if cert.player == colour {
-        Ok(Some(win_by(cert, board, colour)))
-    } else {
-        loss_by(alloc, cert, board, colour)
+    let Findings { found, entered } = find(alloc, board, colour, u64::from(budget), MOST_LINES)?;
+    let plan = plan_by(alloc, found, board, colour)?;
+    Ok(Attempt { plan, entered })
+}
+
+// The plan by a certificate, if one was found.
+fn plan_by(
+    alloc: Global,
+    found: Option<Found>,
+    board: &Board,
+    colour: Colour,
+) -> Result<Option<Plan>, Memory>
+    requires { IfSome found (IsFound board.now colour) }
+    ensures { IfOk result (λ plan. IfSome plan (IsFoundPlan board.now colour)) }
+{
+    match found {
+        None => Ok(None),
+        Some(found) if found.cert.player == colour => Ok(win_by(found, board, colour)),
+        Some(found) => Ok(Some(loss_by(alloc, found, board, colour)?)),
     }
 }
 
-// The win by a certificate of the player to move that was found.
-fn win_by(cert: Cert, board: &Board, colour: Colour) -> Plan
-    requires found { IsFound board.now colour cert }
-    requires player { cert.player ≡ colour }
-    requires moves { NamesMove colour cert }
-    ensures { IsFoundPlan board.now colour result }
+// The win by a certificate of the player to move that was found, if it claims a `move`.
+fn win_by(found: Found, board: &Board, colour: Colour) -> Option<Plan>
+    requires found { IsFound board.now colour found }
+    requires player { found.cert.player ≡ colour }
+    ensures { IfSome result (IsFoundPlan board.now colour) }
 {
-    let cell = claimed_move(&cert).unwrap();
-    Plan::Win { cert, cell }
+    let cert = found.cert;
+    match claimed_move(&cert) {
+        Some(cell) => Some(Plan::Win { cert, cell }),
+        None => None,
+    }
 }
 
 // The search of a board that is lost by a certificate of the other player that was found.
-fn loss_by(alloc: Global, cert: Cert, board: &Board, colour: Colour) -> Result<Option<Plan>, Memory>
-    requires found { IsFound board.now colour cert }
-    requires player { cert.player ≢ colour }
-    ensures { IfOk result (λ r. IfSome r (IsFoundPlan board.now colour)) }
+fn loss_by(alloc: Global, found: Found, board: &Board, colour: Colour) -> Result<Plan, Memory>
+    requires found { IsFound board.now colour found }
+    requires player { found.cert.player ≢ colour }
+    ensures { IfOk result (IsFoundPlan board.now colour) }
 {
-    let Some(carrier) = claimed_carrier(alloc, &cert)? else {
-        return Ok(None);
-    };
+    let Found { cert, carrier } = found;
     let threats = one_threat(alloc, Threat { cert, carrier })?;
-    Ok(Some(Plan::Search {
+    Ok(Plan::Search {
         threats,
         allowed: empties_of(board),
         lost: true,
-    }))
-}
-
-// The carrier of the entry that an accepted certificate claims.
-fn claimed_carrier(alloc: Global, cert: &Cert) -> Result<Option<CellSet>, Memory>
-    requires { IsWritable cert.now }
-    ensures { IfOk result (λ r. IfSome r (λ c. IsVerdict cert.now (Verdict.Yes cert.now.claim c))) }
-{
-    match check(alloc, cert)? {
-        Verdict::Yes { carrier, .. } => Ok(Some(carrier)),
-        Verdict::No { .. } => Ok(None),
-    }
+    })
 }
 
 // A list of one threat.

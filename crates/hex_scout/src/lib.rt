@@ -22,8 +22,8 @@
 //! who wins: `hex_found` makes certificates of what was found, and these are checked.
 //!
 //! **What is only tested, or not said.** Who wins, and how soon that is found; that each state that
-//! is counted was entered. Without a promise, by trial: in which order cells are tried ([`Order`]),
-//! and how many are looked at.
+//! is counted was entered. Without a promise, by trial: in which order cells are tried, and
+//! how many are looked at (src/orders.rt).
 //!
 //! **Limits.** 1,000,000 nodes and the entries of `edge_tables`. A full table ends a search like a
 //! spent budget.
@@ -49,6 +49,5 @@ mod reporters;
 mod searches;
 mod states;
 
-pub use orders::Order;
 pub use searches::{Outcome, Search};
 pub use states::State;

@@ -4,7 +4,7 @@
 ghost use Rattle.std.specs.Prelude.{◌≡◌, ◌≤◌, None, Ok};
 
 use super::nodes::{Effort, MOST_NODES, NEVER, Nodes, ScoutNode};
-use super::orders::Order;
+use super::orders::{focus, fresh, sorted};
 use super::reporters::Reporters;
 use super::states::State;
 use conn_store::Kind;
@@ -30,18 +30,16 @@ pub struct Search {
     pub tables: Tables,
     nodes: Nodes,
     reporters: Reporters,
-    order: Order,
     alloc: Global,
 }
 
 impl Search {
     /// A search that knows nothing, on boards of this size.
-    pub fn make(alloc: Global, size: Size, order: Order) -> Result<Search, FinderStop> {
+    pub fn make(alloc: Global, size: Size) -> Result<Search, FinderStop> {
         Ok(Search {
             tables: Tables::new(alloc),
             nodes: IndexMap::new(alloc),
             reporters: Reporters::make(alloc, size)?,
-            order,
             alloc,
         })
     }
@@ -219,7 +217,7 @@ impl Search {
     fn weigh(&self, state: &State) -> Option<(Effort, Option<Cell>)> {
         let node = self.nodes.get(&state.stones())?;
         let replies = self.replies(state);
-        let focus = self.order.focus(replies.count());
+        let focus = focus(replies.count());
         let mut proof = NEVER - 1;
         let mut disproof = 0u32;
         let mut best = None;
@@ -243,7 +241,7 @@ impl Search {
         let next = state.after(cell);
         match self.nodes.get(&next.stones()) {
             Some(node) => node.effort,
-            None => Effort::open(self.order.fresh(self.replies(&next).count())),
+            None => Effort::open(fresh(self.replies(&next).count())),
         }
     }
 
@@ -262,7 +260,7 @@ impl Search {
             return Err(FinderStop::Full);
         }
         let (mover, other) = self.reporters.currents();
-        let cells = (self.order).sorted(self.alloc, self.replies(state), &mover, &other)?;
+        let cells = sorted(self.alloc, self.replies(state), &mover, &other)?;
         let effort = Effort::open(1);
         self.nodes
             .insert(state.stones(), ScoutNode { effort, cells })?;

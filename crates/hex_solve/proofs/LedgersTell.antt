@@ -14,7 +14,7 @@ use Rattle.conn_store.specs.declared.entries.Kind.{Kind}
 use Rattle.conn_store.specs.declared.entries.Kind.TheVariants.{Full, Semi}
 use Rattle.win_cert.specs.Scopes.{player_board}
 use Rattle.win_cert.specs.Versions.{version_for}
-use Rattle.win_cert.specs.Writable.{IsLineOf}
+use Rattle.win_cert.specs.Writable.{IsLineOf, most_lines}
 use Rattle.win_cert.specs.declared.certs.Cert.{Cert}
 use Rattle.win_cert.specs.declared.certs.TheConstants.{MOST_LINES, SECOND_VERSION}
 use Rattle.hex_solve.specs.Deciding.{lines_needed, positions_needed}
@@ -77,7 +77,7 @@ certified d claim cert w z f v b p k l =
           entry = shown_below d d.base.board claim
               (scope_of d.base d.base.board) cert.entry w shown;
         },
-        ledger.few,
+        subst (λ n. length cert.lines ≤ most_lines n) (sym v) ledger.few,
       );
       accepted = (accepted cert shown.carrier ledger.clear there).0;
     }

@@ -26,8 +26,8 @@
 //! search with connections gets the budget and no more. That a full board has a winner:
 //! [`Solved::Open`] would show one that has none.
 //!
-//! **Limits.** Those of `win_cert` and `hex_found`: a certificate has at most 200,000 lines. The
-//! plain search has two ledgers of at most so many.
+//! **Limits.** Those of `win_cert` and `hex_found`: a certificate has at most 200,000 lines, or
+//! 1,000,000 if some are lifts. The plain search has two ledgers of at most 200,000.
 //!
 //! **Why so.**
 //!
@@ -58,6 +58,6 @@ mod refusals;
 mod solver;
 
 pub use answers::Solved;
-pub use laws::{first_implies_wins, positions_are_bounded};
+pub use laws::{few_cells_are_nine, first_implies_wins, positions_are_bounded};
 pub use refusals::Memory;
 pub use solver::solve;

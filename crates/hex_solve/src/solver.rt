@@ -16,10 +16,10 @@ use super::refusals::Memory;
 use conn_store::Kind;
 use hex_board::Board;
 use hex_cells::Colour;
-use hex_found::find;
+use hex_found::{Found, find};
 use hsearch::{Report, connect};
 use std::alloc::Global;
-use win_cert::{Cert, accepted_certificates_win, cut, edge_numbers, raise};
+use win_cert::{Cert, MOST_LATEST_LINES, accepted_certificates_win, cut, edge_numbers, raise};
 
 /// Who wins the board, on which no player is joined, with `mover` to place next.
 ///
@@ -74,8 +74,8 @@ fn search_both(
     requires { winner_of board.now ≡ None }
     ensures { IfOk result (IsSolverAnswer board.now mover (Some own) budget) }
 {
-    match find(alloc, board, mover, budget)? {
-        Some(cert) => Ok(Solved::Won {
+    match find(alloc, board, mover, budget, MOST_LATEST_LINES)?.found {
+        Some(Found { cert, carrier: _ }) => Ok(Solved::Won {
             winner: cert.player,
             cert,
         }),

@@ -18,7 +18,7 @@
 #![tactic(auto)]
 
 use hex_cli::run;
-use hex_devices::{Devices, End, Stop, arguments_of};
+use hex_devices::{Devices, End, Stop, arguments_of, grow_stack, hold_streams};
 use hex_io::{DirShelf, ErrLink, FileLink, Link, Shelf, StdLink, report};
 use hex_plan::{Archive, NoArchive};
 use hexd_args::CommandLine;
@@ -29,6 +29,8 @@ use std::thread::Threads;
 use trace_audit::TraceArchive;
 
 fn main(rt: HostRuntime) -> ExitCode {
+    let _held = hold_streams(&rt);
+    grow_stack(&rt);
     let mut errors = ErrLink::new(&rt);
     let status = match status_of(&rt, &rt, &mut errors) {
         Ok(status) => status,

@@ -13,7 +13,7 @@
 //! **Limits.** An argument that is no text ends it with status 2.
 #![tactic(auto)]
 
-use hex_devices::arguments_of;
+use hex_devices::{arguments_of, grow_stack, hold_streams};
 use hex_io::{ErrLink, StdLink, Word, report};
 use match_ref::run_match;
 use search_team::OpenGate;
@@ -21,6 +21,8 @@ use std::process::ExitCode;
 use std::thread::Threads;
 
 fn main(rt: HostRuntime) -> ExitCode {
+    let _held = hold_streams(&rt);
+    grow_stack(&rt);
     let mut errors = ErrLink::new(&rt);
     let status = match arguments_of(&rt) {
         Ok(words) => run_with(&rt, &rt, &words, &mut errors),

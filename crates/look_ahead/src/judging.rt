@@ -1,19 +1,19 @@
-//! How a board is judged: by the reports and circuits of both players.
+//! How a board is judged: by the links and circuits of both players.
 
 ghost use Rattle.std.specs.Prelude.{◌≡◌};
 
+use super::filling::filled;
 use super::nodes::{Kid, LookNode, NOWHERE, State};
+use super::pool::Verdict;
 use super::refusals::Memory;
 use super::searches::{Look, Root};
 use super::values::{prior_of, value_of, worth};
-use conn_store::{Held, Kind, MOST_SEMI, Store};
 use hex_board::Board;
-use hex_cells::{CellSet, Colour, MOST_CELLS};
-use hsearch::{Report, connect};
+use hex_cells::{Cell, CellSet, Colour, MOST_CELLS};
 use std::alloc::Global;
 
 impl Look {
-    /// The root, with kids on these cells, by reports that are given or made.
+    /// The root, with kids on these cells. Cells are filled if nobody is joined by that.
     pub(super) fn opened_root(
         &mut self,
         alloc: Global,
@@ -22,23 +22,42 @@ impl Look {
     ) -> Result<LookNode, Memory>
         ensures { self.new.nodes ≡ self.old.nodes }
     {
-        let (Some(own), Some(other)) = (root.own, root.other) else {
-            let own = connect(alloc, root.board, root.colour)?;
-            let other = connect(alloc, root.board, root.colour.other())?;
-            return self.opened(own.store(), other.store(), must);
-        };
-        self.opened(own.store(), other.store(), must)
+        let mut board = filled(root.board);
+        if board.winner().is_some() {
+            board = *root.board;
+        }
+        self.pool.clear();
+        self.pool.load(&board)?;
+        self.opened(alloc, &board, root.colour, must)
     }
 
-    // An open node with kids on these cells, by the reports of the player to move and the other.
-    fn opened(&mut self, own: &Store, other: &Store, must: CellSet) -> Result<LookNode, Memory>
+    // An open node with this board and kids on these cells, by the fresh links of the player to
+    // move and the other. It gets the place behind the last node.
+    fn opened(
+        &mut self,
+        alloc: Global,
+        board: &Board,
+        mover: Colour,
+        must: CellSet,
+    ) -> Result<LookNode, Memory>
         ensures { self.new.nodes ≡ self.old.nodes }
     {
-        self.own.load(own);
-        self.other.load(other);
-        let first = self.kids.len().min(NOWHERE as usize) as u32;
-        let all = self.worth_of(must);
-        let mut rest = must;
+        self.pool.fresh().of(mover).draw(&mut self.own);
+        self.pool.fresh().of(mover.other()).draw(&mut self.other);
+        let slot = self.pool.keep(alloc, number_of(self.nodes.len()))?;
+        let first = number_of(self.kids.len());
+        self.add_kids(must)?;
+        let kids = first..number_of(self.kids.len());
+        let value = value_of(&self.own, &self.other);
+        Ok(LookNode::open(board, value, kids, slot))
+    }
+
+    // Adds kids on these cells.
+    fn add_kids(&mut self, cells: CellSet) -> Result<(), Memory>
+        ensures { self.new.nodes ≡ self.old.nodes }
+    {
+        let all = self.worth_of(cells);
+        let mut rest = cells;
         'cells: for _step in 0..MOST_CELLS {
             let Some(cell) = rest.least() else {
                 break;
@@ -51,8 +70,7 @@ impl Look {
                 node: NOWHERE,
             })?;
         }
-        let value = value_of(&self.own, &self.other);
-        Ok(LookNode::open(value, first, must.count()))
+        Ok(())
     }
 
     // What these cells are worth together.
@@ -69,85 +87,54 @@ impl Look {
         all
     }
 
-    /// Judges a board, by reports in the memory of those before.
+    /// Judges the board after a stone on this cell at a node where this player is to move.
     pub(super) fn judged(
         &mut self,
         alloc: Global,
+        above: u32,
+        mover: Colour,
+        cell: Cell,
+    ) -> Result<Option<LookNode>, Memory>
+        ensures { self.new.nodes ≡ self.old.nodes }
+    {
+        let Some(node) = self.nodes.get(above as usize).copied() else {
+            return Ok(None);
+        };
+        let slot = self.pool.slot_of(alloc, above, node.slot, &node.board)?;
+        let board = filled(&with_stone(&node.board, mover, cell));
+        let verdict = self.pool.verdict(slot, &board, mover.other())?;
+        let node = self.node_by(alloc, verdict, &board, mover.other())?;
+        Ok(Some(node))
+    }
+
+    // The node of a board with this verdict.
+    fn node_by(
+        &mut self,
+        alloc: Global,
+        verdict: Verdict,
         board: &Board,
         mover: Colour,
     ) -> Result<LookNode, Memory>
         ensures { self.new.nodes ≡ self.old.nodes }
     {
-        let own = report_in(self.own_report.take(), alloc, board, mover)?;
-        if has_edges(own.store(), Kind::Semi) || has_edges(own.store(), Kind::Full) {
-            self.own_report = Some(own);
-            return Ok(LookNode::decided(State::Won));
-        }
-        let other = report_in(self.other_report.take(), alloc, board, mover.other())?;
-        let node = self.weighed(&own, &other, board.empties());
-        self.own_report = Some(own);
-        self.other_report = Some(other);
-        node
-    }
-
-    // The node of a board with these empty cells, whose own report shows no win.
-    fn weighed(
-        &mut self,
-        own: &Report,
-        other: &Report,
-        empties: CellSet,
-    ) -> Result<LookNode, Memory>
-        ensures { self.new.nodes ≡ self.old.nodes }
-    {
-        let must = common(other.store(), empties);
-        if has_edges(other.store(), Kind::Full) || must.is_empty() {
-            return Ok(LookNode::decided(State::Lost));
-        }
-        self.opened(own.store(), other.store(), must)
-    }
-}
-
-// A player's report, in the memory of an earlier one, if there is one.
-fn report_in(
-    earlier: Option<Report>,
-    alloc: Global,
-    board: &Board,
-    colour: Colour,
-) -> Result<Report, Memory> {
-    match earlier {
-        Some(report) => Ok(report.again(alloc, board, colour)?),
-        None => Ok(connect(alloc, board, colour)?),
-    }
-}
-
-// Whether the store has an entry of that kind between the edges.
-fn has_edges(store: &Store, kind: Kind) -> bool {
-    0 < edge_held(store, kind).count
-}
-
-// The numbers of the store's entries of a kind between the edges; none if the player is joined.
-fn edge_held(store: &Store, kind: Kind) -> Held {
-    let elements = store.elements();
-    let first = elements.edge(false);
-    let second = elements.edge(true);
-    if first < second {
-        store.held(first, second, kind)
-    } else {
-        Held {
-            count: 0,
-            at: [0; MOST_SEMI],
+        match verdict {
+            Verdict::Won => Ok(LookNode::decided(board, State::Won)),
+            Verdict::Lost => Ok(LookNode::decided(board, State::Lost)),
+            Verdict::Among(must) => self.opened(alloc, board, mover, must),
         }
     }
 }
 
-// The cells of the region that the carriers of all semi entries between the edges have in common.
-fn common(store: &Store, region: CellSet) -> CellSet {
-    let held = edge_held(store, Kind::Semi);
-    let mut cells = region;
-    for number in held.at.iter().take(held.count as usize) {
-        if let Some(entry) = store.entries().get(*number as usize) {
-            cells = cells.meet(entry.carrier);
-        }
+// A length as a place.
+fn number_of(length: usize) -> u32 {
+    length.min(NOWHERE as usize) as u32
+}
+
+// The board with a stone on the cell, if it is empty.
+fn with_stone(board: &Board, colour: Colour, cell: Cell) -> Board {
+    let mut now = *board;
+    if now.empties().has(cell) {
+        now.place(colour, cell);
     }
-    cells
+    now
 }

@@ -1,10 +1,10 @@
 //! The nodes of a search, and their kids.
 
+pub(crate) use super::pool::NOWHERE;
 use super::values::{WON, turned};
+use hex_board::Board;
 use hex_cells::Cell;
-
-/// The place of no node.
-pub(crate) const NOWHERE: u32 = u32::MAX;
+use std::ops::Range;
 
 /// What is known of a node, for the player to move.
 #[derive(Clone, Copy, Debug, PartialEq, Eq)]
@@ -17,6 +17,8 @@ pub(crate) enum State {
 /// A board that was judged.
 #[derive(Clone, Copy, Debug, PartialEq, Eq)]
 pub(crate) struct LookNode {
+    /// The board, on which cells were filled.
+    pub board: Board,
     pub state: State,
     /// Where its kids begin, and how many they are.
     pub first: u32,
@@ -24,6 +26,8 @@ pub(crate) struct LookNode {
     /// How many walks came here, and the sum of the values that they had.
     pub visits: u64,
     pub sum: u64,
+    /// Where its links were kept.
+    pub slot: usize,
 }
 
 /// A cell on which the player to move at a node may place.
@@ -37,24 +41,28 @@ pub(crate) struct Kid {
 
 impl LookNode {
     /// A node that is won or lost.
-    pub(crate) fn decided(state: State) -> LookNode {
+    pub(crate) fn decided(board: &Board, state: State) -> LookNode {
         LookNode {
+            board: *board,
             state,
             first: 0,
             count: 0,
             visits: 1,
             sum: value_in(state, WON / 2),
+            slot: usize::MAX,
         }
     }
 
-    /// An open node with this value.
-    pub(crate) fn open(value: u64, first: u32, count: u32) -> LookNode {
+    /// An open node with this value, and kids at these places.
+    pub(crate) fn open(board: &Board, value: u64, kids: Range<u32>, slot: usize) -> LookNode {
         LookNode {
+            board: *board,
             state: State::Open,
-            first,
-            count,
+            first: kids.start,
+            count: kids.end.saturating_sub(kids.start),
             visits: 1,
             sum: value,
+            slot,
         }
     }
 

@@ -6,12 +6,6 @@ use std::alloc::{AllocError, AllocFailed};
 #[derive(Debug, Clone, Copy, PartialEq, Eq, Drop)]
 pub struct Memory;
 
-impl From<hsearch::Memory> for Memory {
-    fn from(_refused: hsearch::Memory) -> Memory {
-        Memory
-    }
-}
-
 impl From<AllocError> for Memory {
     fn from(_refused: AllocError) -> Memory {
         Memory
@@ -20,6 +14,12 @@ impl From<AllocError> for Memory {
 
 impl<T: Drop> From<AllocFailed<T>> for Memory {
     fn from(_refused: AllocFailed<T>) -> Memory {
+        Memory
+    }
+}
+
+impl From<hsearch::Memory> for Memory {
+    fn from(_refused: hsearch::Memory) -> Memory {
         Memory
     }
 }

@@ -2,14 +2,15 @@
 
 ghost use Rattle.std.specs.Prelude.{◌≡◌, ◌+◌, ◌≤◌, ◌<◌, ℕ, IfOk, true, false, length};
 ghost use Rattle.hex_cells.specs.Sets.{has};
+ghost use Rattle.look_ahead.specs.Looked.{IsLookOf};
 
 use super::nodes::{Kid, LookNode, NOWHERE, State};
+use super::pool::Pool;
 use super::refusals::Memory;
 use super::rows::Looked;
 use circuit::Circuit;
 use hex_board::Board;
 use hex_cells::{Cell, CellSet, Colour, MOST_CELLS};
-use hsearch::Report;
 use std::alloc::Global;
 
 // So many walks are made for each node of the budget at most: some end at a node that is known.
@@ -19,13 +20,11 @@ const WALKS_PER_NODE: u64 = 4;
 // 16 MB.
 const NODES_WITH_ROOM: u32 = 10_000;
 
-/// A board with the player to move, and the reports of both players, if they are known.
+/// A board with the player to move.
 #[derive(Clone, Copy)]
 pub struct Root<'a> {
     pub board: &'a Board,
     pub colour: Colour,
-    pub own: Option<&'a Report>,
-    pub other: Option<&'a Report>,
 }
 
 /// A search, with memory that is used again.
@@ -37,9 +36,8 @@ pub struct Look {
     pub(super) kids: Vec<Kid>,
     // The places of the nodes of a walk.
     pub(super) path: Vec<u32>,
-    // Reports whose memory the next ones take: the player's to move, and the other's.
-    pub(super) own_report: Option<Report>,
-    pub(super) other_report: Option<Report>,
+    // The links of nodes.
+    pub(super) pool: Pool,
 }
 
 impl Look {
@@ -53,17 +51,16 @@ impl Look {
             nodes: Vec::new(alloc),
             kids: Vec::new(alloc),
             path: Vec::new(alloc),
-            own_report: None,
-            other_report: None,
+            pool: Pool::make(alloc)?,
         })
     }
 
     /// What is found of the cells of `must`, on which the root's player is to place a stone, with
-    /// the one that is chosen: that after which the other player is known to lose, or else the one
-    /// by which most walks went, and of as many the one with the greatest prior. At most `budget`
-    /// nodes are judged, and at least the root, by the reports of both players that it has, if any.
+    /// the one that is chosen: one whose row has the highest rank, and of several such ones
+    /// that with the greatest prior. At most `budget` nodes are judged, and at least the root. Who
+    /// is known to win after a stone does, and the line of a row can be played after it.
     ///
-    /// It refuses only if memory runs out. A body is proved that takes any cell of `must`.
+    /// It refuses only if memory runs out. A body is proved that walks to any nodes.
     pub fn choose(
         &mut self,
         alloc: Global,
@@ -73,8 +70,7 @@ impl Look {
     ) -> Result<Looked, Memory>
         requires some { (k : ℕ) × (has must k ≡ true) }
         requires budget { 1 ≤ budget }
-        ensures inside { IfOk result (λ looked. has must looked.cell ≡ true) }
-        ensures few { IfOk result (λ looked. looked.nodes ≤ budget) }
+        ensures { IfOk result (IsLookOf root.now.board.now root.now.colour must budget) }
     {
         self.nodes.clear();
         self.kids.clear();
@@ -85,12 +81,11 @@ impl Look {
             if self.is_done(budget) {
                 break;
             }
-            self.walk(alloc, root.board, root.colour)?;
+            self.walk(alloc, root.colour)?;
         }
-        let cell = self.best_of(must);
         let nodes = self.nodes.len() as u32;
-        let rows = self.rows(alloc)?;
-        Ok(Looked::of(cell, nodes, rows))
+        let looked = self.told(alloc, root, must, nodes)?;
+        Ok(looked)
     }
 
     // Makes room for so many nodes, with so many kids each, and for a walk.
@@ -111,20 +106,21 @@ impl Look {
     }
 
     // One walk, with one new node where it ends at none that is known.
-    fn walk(&mut self, alloc: Global, board: &Board, colour: Colour) -> Result<(), Memory>
-        ensures { length self.new.nodes.items ≤ length self.old.nodes.items + 1 }
+    fn walk(&mut self, alloc: Global, colour: Colour) -> Result<(), Memory>
+        ensures few { length self.new.nodes.items ≤ length self.old.nodes.items + 1 }
+        ensures keeps { length self.old.nodes.items ≤ length self.new.nodes.items }
     {
         self.path.clear();
-        self.down(alloc, board, colour)?;
+        self.down(alloc, colour)?;
         self.up();
         Ok(())
     }
 
     // Down to a new node, or to one that is known.
-    fn down(&mut self, alloc: Global, board: &Board, colour: Colour) -> Result<(), Memory>
-        ensures { length self.new.nodes.items ≤ length self.old.nodes.items + 1 }
+    fn down(&mut self, alloc: Global, colour: Colour) -> Result<(), Memory>
+        ensures few { length self.new.nodes.items ≤ length self.old.nodes.items + 1 }
+        ensures keeps { length self.old.nodes.items ≤ length self.new.nodes.items }
     {
-        let mut now = *board;
         let mut mover = colour;
         let mut place = 0u32;
         'stones: for _depth in 0..MOST_CELLS {
@@ -132,27 +128,30 @@ impl Look {
             let Some((number, kid)) = self.next(place) else {
                 return Ok(());
             };
-            now = with_stone(&now, mover, kid.cell);
-            mover = mover.other();
             if kid.node == NOWHERE {
-                return self.enter(alloc, &now, mover, number);
+                return self.enter(alloc, place, mover, number, kid.cell);
             }
+            mover = mover.other();
             place = kid.node;
         }
         Ok(())
     }
 
-    // Judges the board after the kid with this number, and makes a node of it.
+    // Judges the board after the kid with this number of a node, and makes a node of it.
     fn enter(
         &mut self,
         alloc: Global,
-        board: &Board,
+        above: u32,
         mover: Colour,
         number: u32,
+        cell: Cell,
     ) -> Result<(), Memory>
-        ensures { length self.new.nodes.items ≤ length self.old.nodes.items + 1 }
+        ensures few { length self.new.nodes.items ≤ length self.old.nodes.items + 1 }
+        ensures keeps { length self.old.nodes.items ≤ length self.new.nodes.items }
     {
-        let node = self.judged(alloc, board, mover)?;
+        let Some(node) = self.judged(alloc, above, mover, cell)? else {
+            return Ok(());
+        };
         let place = self.nodes.len().min(NOWHERE as usize) as u32;
         self.nodes.push(node)?;
         if let Some(kid) = self.kids.get_mut(number as usize) {
@@ -198,13 +197,4 @@ impl Look {
             }
         }
     }
-}
-
-// The board with the mover's stone on the cell, if it is empty.
-fn with_stone(board: &Board, mover: Colour, cell: Cell) -> Board {
-    let mut now = *board;
-    if now.empties().has(cell) {
-        now.place(mover, cell);
-    }
-    now
 }

@@ -1,10 +1,9 @@
 -- A match and a number determine the match game.
-use Rattle.std.proofs.Common.{◌≡◌, ℕ, Bool, true, false, List, [], ◌∷◌, refl, sym, ap, ◌∙◌, subst}
+use Rattle.std.proofs.Common.{◌≡◌, ℕ, Bool, true, false, List, [], ◌∷◌, ◌++◌, refl, sym, ap, ◌∙◌, subst}
 use Rattle.std.proofs.Common.{true≢false}
 use Rattle.std.specs.Prelude.{◌||◌, if◌then◌else◌, nat_lt}
 use Rattle.hex_cells.specs.Colours.{other_of}
 use Rattle.hex_cells.specs.declared.colours.Colour.{Colour}
-use Rattle.hex_cells.specs.declared.colours.Colour.TheVariants.{Black}
 use Rattle.hex_board.specs.Joined.{winner_of}
 use Rattle.hex_game.specs.Games.{GameData, board_of, with_step}
 use Rattle.hex_game.specs.Moves.{step_of}
@@ -17,9 +16,9 @@ use Rattle.hex_plan.proofs.Same.{same_turn}
 use Rattle.match_ref.specs.declared.settings.Match.{Match}
 use Rattle.match_ref.specs.declared.settings.Side.{Side}
 use Rattle.match_ref.specs.declared.played.Played.{Played}
-use Rattle.match_ref.specs.Matches.{IsMatchGame, IsTurnCell, PlaysOn, SearchAlone, first_game}
-use Rattle.match_ref.specs.Matches.{game_with, is_side_a, side_knobs, side_means, side_of}
-use Rattle.match_ref.specs.Matches.{turns_made}
+use Rattle.match_ref.specs.Matches.{IsMatchGame, IsTurnCell, PlaysOn, SearchAlone, first_mover}
+use Rattle.match_ref.specs.Matches.{first_steps, game_with, is_side_a, opened_game, opening_of}
+use Rattle.match_ref.specs.Matches.{side_knobs, side_means, side_of, turns_made}
 
 -- a side that asks no solver and looks not ahead looks for no connections
 bare_side : (s : Side) → (s.solve ≡ 0) × (s.look ≡ 0) → (side_means s).hsearch ≡ false
@@ -50,7 +49,7 @@ same_steps m i game mover [] (q ∷ qs) alone h g = absurd (true≢false (sym g.
 same_steps m i game mover (p ∷ ps) [] alone h g = absurd (true≢false (sym h.0 ∙ g))
 same_steps m i game mover (p ∷ ps) (q ∷ qs) alone h g =
     let cells : h.1 ≡ g.1 = same_cell (side_knobs m i mover) (side_means (side_of m i mover))
-    (board_of game) mover (turns_made game) h.1 g.1 refl (bare_sides m i mover alone) h.3 g.3 in
+    (board_of game) mover (turns_made (opening_of m i) game) h.1 g.1 refl (bare_sides m i mover alone) h.3 g.3 in
     let step : p ≡ q = h.2 ∙ (ap (λ c. step_of mover (Stone c)) cells ∙ sym g.2) in
     let rest : ps ≡ qs = same_steps m i (with_step game q) (other_of mover) ps qs alone
     (subst (λ s. PlaysOn m i (with_step game s) (other_of mover) ps) step h.4) g.4 in
@@ -59,8 +58,11 @@ same_steps m i game mover (p ∷ ps) (q ∷ qs) alone h g =
 pub same_game : (m : Match) (i : ℕ) (p q : Played) → SearchAlone m → IsMatchGame m i p
     → IsMatchGame m i q → p ≡ q
 same_game m i p q alone h g =
+    let opening = opening_of m i in
+    let sides : h.sides ≡ g.sides
+    = same_steps m i (opened_game m i) (first_mover opening) h.sides g.sides alone h.plays g.plays in
     let steps : p.steps ≡ q.steps
-    = same_steps m i (first_game m) Black p.steps q.steps alone h.plays g.plays in
+    = h.opens ∙ (ap (λ s. first_steps opening ++ s) sides ∙ sym g.opens) in
     let winner : p.winner ≡ q.winner = h.winner
     ∙ (ap (λ s. winner_of (board_of (game_with m s))) steps ∙ sym g.winner) in
     λ k. record { steps = steps k; winner = winner k }

@@ -1,8 +1,10 @@
 -- The cell of a turn makes a legal step.
 use Rattle.std.proofs.Common.{◌≡◌, ℕ, ◌+◌, true, false, List, [], ◌∷◌, ◌++◌, refl, ap, sym, ◌∙◌}
-use Rattle.std.proofs.Common.{subst, append_assoc, append-nil}
+use Rattle.std.proofs.Common.{subst, append_assoc, append-nil, ◌*◌, ◌/◌, ◌%◌, ◌<◌, Option, Some, None}
+use Rattle.std.proofs.Common.{length, zero, suc}
 use Rattle.std.specs.Prelude.{All, not, ◌&&◌}
-use Rattle.std.proofs.lemmas.List.Elements.{All-cons, All-nil}
+use Rattle.std.specs.List.{slice_get}
+use Rattle.std.proofs.lemmas.List.Elements.{All-cons, All-head, All-nil, All-tail}
 use Rattle.match_ref.specs.Dealt.{AreGamesBy}
 use Rattle.hex_cells.specs.declared.colours.Colour.{Colour}
 use Rattle.hex_cells.specs.declared.colours.Colour.TheVariants.{Black}
@@ -12,15 +14,19 @@ use Rattle.hex_game.specs.declared.moves.Step.{Step}
 use Rattle.hex_plan.specs.Openings.{may_move}
 use Rattle.match_ref.specs.declared.settings.Match.{Match}
 use Rattle.hex_board.specs.Joined.{winner_of}
+use Rattle.hex_board.proofs.EmptyBoards.{all_empty, empty_open}
 use Rattle.hex_game.specs.Moves.{step_of}
-use Rattle.hex_game.specs.Games.{AreLegal, GameData, board_of, is_legal, is_over, with_step}
+use Rattle.hex_game.specs.Games.{AreLegal, GameData, IsOnBoard, board_of, is_legal, is_over}
+use Rattle.hex_game.specs.Games.{new_game, replay, with_step}
 use Rattle.hex_game.specs.declared.moves.Move.TheVariants.{Stone}
 use Rattle.hex_game.proofs.Over.{not_over}
 use Rattle.tree_words.specs.declared.settings.Knobs.{Knobs}
 use Rattle.hex_plan.specs.declared.settings.Means.{Means}
 use Rattle.match_ref.specs.declared.played.Played.{Played}
-use Rattle.match_ref.specs.Matches.{IsMatchGame, IsTurnCell, PlaysOn, first_game, game_with}
-use Rattle.match_ref.specs.Matches.{side_knobs, side_means, side_of, turns_made}
+use Rattle.match_ref.specs.Matches.{IsMatch, IsMatchGame, IsTurnCell, PlaysOn, first_mover}
+use Rattle.match_ref.specs.Matches.{first_steps, game_with, opened_game, opening_of, side_knobs}
+use Rattle.match_ref.specs.Matches.{side_means, side_of, turns_made}
+use Rattle.match_ref.proofs.ListLaws.{IsOn}
 
 pub turn_is_legal : (knobs : Knobs) (means : Means) (game : GameData) (mover : Colour) (turns cell : ℕ)
     → IsTurnCell knobs means (board_of game) mover turns cell
@@ -36,30 +42,47 @@ turn_is_legal knobs means game mover turns cell h =
 
 -- ---- a game that goes on
 
--- the steps so far, with what follows of the game from here on, are those of match game i
-abbrev pub StepsGoOn : Match → ℕ → GameData → Colour → Type 0
-StepsGoOn m i game mover =
-    (game.start ≡ empty_board m.size)
-    × ((rest : List Step) → PlaysOn m i game mover rest → PlaysOn m i (first_game m) Black
-    (game.steps ++ rest))
+-- what the sides played so far, with what follows of the game from here on, is what they play in
+-- match game i
+abbrev pub SidesGoOn : Match → ℕ → GameData → Colour → List Step → Type 0
+SidesGoOn m i game mover sides = (rest : List Step) → PlaysOn m i game mover rest
+    → PlaysOn m i (opened_game m i) (first_mover (opening_of m i)) (sides ++ rest)
+
+-- the steps so far are the opening's and those of the sides
+pub record StepsGoOn (m : Match) (i : ℕ) (game : GameData) (mover : Colour) : Type 0 where
+  pub start : game.start ≡ empty_board m.size
+  pub sides : List Step
+  pub opens : game.steps ≡ first_steps (opening_of m i) ++ sides
+  pub plays : SidesGoOn m i game mover sides
+
+-- the sides have played nothing yet
+pub opened : (m : Match) (i : ℕ) (game : GameData) (mover : Colour) → game ≡ opened_game m i
+    → mover ≡ first_mover (opening_of m i) → StepsGoOn m i game mover
+opened m i game mover is first = record {
+  start = ap (λ g. g.start) is;
+  sides = [];
+  opens = ap (λ g. g.steps) is ∙ sym (append-nil (first_steps (opening_of m i)));
+  plays = λ rest more. subst (λ p. PlaysOn m i (opened_game m i) p rest) first
+      (subst (λ g. PlaysOn m i g mover rest) is more);
+}
 
 pub step_more : (m : Match) (i : ℕ) (game : GameData) (mover : Colour) (cell : ℕ)
     → StepsGoOn m i game mover → may_move (board_of game) ≡ true
     → IsTurnCell (side_knobs m i mover) (side_means (side_of m i mover)) (board_of game) mover
-    (turns_made game) cell
+    (turns_made (opening_of m i) game) cell
     → StepsGoOn m i (with_step game (step_of mover (Stone cell))) (other_of mover)
-step_more m i game mover cell goes may turn = (
-  goes.0,
-  λ rest more. subst (PlaysOn m i (first_game m) Black)
-      (sym (append_assoc game.steps (step_of mover (Stone cell) ∷ []) rest))
-      (goes.1 (step_of mover (Stone cell) ∷ rest) (may, cell, refl, turn, more)),
-)
-
-pub steps_end : (m : Match) (i : ℕ) (game : GameData) (mover : Colour) → StepsGoOn m i game mover
-    → may_move (board_of game) ≡ false
-    → PlaysOn m i (first_game m) Black game.steps
-steps_end m i game mover goes over
-    = subst (PlaysOn m i (first_game m) Black) (append-nil game.steps) (goes.1 [] over)
+step_more m i game mover cell goes may turn =
+    let opening = opening_of m i in
+    let step : Step = step_of mover (Stone cell) in
+    record {
+      start = goes.start;
+      sides = goes.sides ++ step ∷ [];
+      opens = ap (λ s. s ++ step ∷ []) goes.opens
+          ∙ append_assoc (first_steps opening) goes.sides (step ∷ []);
+      plays = λ rest more. subst (PlaysOn m i (opened_game m i) (first_mover opening))
+          (sym (append_assoc goes.sides (step ∷ []) rest))
+          (goes.plays (step ∷ rest) (may, cell, refl, turn, more));
+    }
 
 -- a game that ended is match game i
 pub ended : (m : Match) (i : ℕ) (game : GameData) (mover : Colour) (p : Played)
@@ -67,10 +90,13 @@ pub ended : (m : Match) (i : ℕ) (game : GameData) (mover : Colour) (p : Played
     → p.steps ≡ game.steps → p.winner ≡ winner_of (board_of game) → IsMatchGame m i p
 ended m i game mover p goes over steps winner =
     let same : game ≡ game_with m game.steps
-    = λ k. record { start = goes.0 k; steps = game.steps } in
+    = λ k. record { start = goes.start k; steps = game.steps } in
+    let opening = opening_of m i in
     record {
-      plays = subst (PlaysOn m i (first_game m) Black) (sym steps)
-          (steps_end m i game mover goes over);
+      sides = goes.sides;
+      opens = steps ∙ goes.opens;
+      plays = subst (PlaysOn m i (opened_game m i) (first_mover opening)) (append-nil goes.sides)
+          (goes.plays [] over);
       winner = winner
           ∙ (ap (λ g. winner_of (board_of g)) same ∙ ap (λ s. winner_of (board_of (game_with m s)))
           (sym steps));
@@ -87,7 +113,8 @@ legal_in m i game mover (p ∷ ps) [] step rest h e =
     let same : step ≡ p = cc in
     let here : is_legal game p ≡ true
     = subst (λ s. is_legal game s ≡ true) (sym h.2)
-    (turn_is_legal (side_knobs m i mover) (side_means (side_of m i mover)) game mover (turns_made game) h.1 h.3) in
+    (turn_is_legal (side_knobs m i mover) (side_means (side_of m i mover)) game mover
+    (turns_made (opening_of m i) game) h.1 h.3) in
     subst (λ s. is_legal (record { start = game.start; steps = game.steps ++ [] }) s ≡ true)
     (sym same)
     (subst (λ l. is_legal (record { start = game.start; steps = l }) p ≡ true)
@@ -99,14 +126,62 @@ legal_in m i game mover (p ∷ ps) (d ∷ done) step rest h e =
     subst (λ l. is_legal (record { start = game.start; steps = l }) step ≡ true)
     (append_assoc game.steps (p ∷ []) done ∙ ap (λ x. game.steps ++ (x ∷ done)) (sym first)) next
 
-pub steps_legal : (m : Match) (i : ℕ) (p : Played) → IsMatchGame m i p
-    → AreLegal (empty_board m.size) p.steps
-steps_legal m i p h
-    = λ done step rest e. legal_in m i (first_game m) Black p.steps done step rest h.plays e
+-- ---- the opening's step is legal too
 
-pub all_legal : (m : Match) (i step : ℕ) (ps : List Played) → AreGamesBy m i step ps
+-- a stone on the empty board
+pub first_is_legal : (n cell : ℕ) (player : Colour) → cell < n * n
+    → is_legal (new_game (empty_board n)) (step_of player (Stone cell)) ≡ true
+unfolding replay
+first_is_legal n cell player on =
+    ap (λ o. not o && is_empty_at (empty_board n) cell) (not_over (empty_board n) (empty_open n))
+    ∙ all_empty n cell on
+
+pub first_on_board : (n cell : ℕ) → cell < n * n
+    → IsOnBoard (board_of (new_game (empty_board n))) (Stone cell)
+unfolding replay
+first_on_board n cell on = on
+
+pub opening_on : (m : Match) (i : ℕ) → IsMatch m → IsOn m.size (opening_of m i)
+opening_on m i is = item_on m.openings (i / 2 % length m.openings) is.on_board
+  where
+    item_on : (cells : List ℕ) (j : ℕ) → All (λ cell. cell < m.size * m.size) cells
+        → IsOn m.size (slice_get cells j)
+    item_on [] j on = tt
+    item_on (c ∷ cells) zero on = All-head (λ cell. cell < m.size * m.size) c cells on
+    item_on (c ∷ cells) (suc j) on
+        = item_on cells j (All-tail (λ cell. cell < m.size * m.size) c cells on)
+
+legal_after : (m : Match) (i : ℕ) (opening : Option ℕ) (mover : Colour) (sides : List Step)
+    → IsOn m.size opening → PlaysOn m i (game_with m (first_steps opening)) mover sides
+    → AreLegal (empty_board m.size) (first_steps opening ++ sides)
+legal_after m i None mover sides on h = λ done step rest e.
+    legal_in m i (game_with m []) mover sides done step rest h e
+legal_after m i (Some cell) mover sides on h = λ done step rest e. first_or_later done step rest e
+  where
+    first_or_later : (done : List Step) (step : Step) (rest : List Step)
+        → done ++ step ∷ rest ≡ step_of Black (Stone cell) ∷ sides
+        → is_legal (record { start = empty_board m.size; steps = done }) step ≡ true
+    first_or_later [] step rest e =
+        let same : step ≡ step_of Black (Stone cell) = cc in
+        subst (λ s. is_legal (new_game (empty_board m.size)) s ≡ true) (sym same)
+        (first_is_legal m.size cell Black on)
+    first_or_later (d ∷ done) step rest e =
+        let same : d ≡ step_of Black (Stone cell) = cc in
+        let later : done ++ step ∷ rest ≡ sides = cc in
+        subst (λ s. is_legal (record { start = empty_board m.size; steps = s ∷ done }) step ≡ true)
+        (sym same) (legal_in m i (game_with m (step_of Black (Stone cell) ∷ [])) mover sides done step
+        rest h later)
+
+pub steps_legal : (m : Match) (i : ℕ) (p : Played) → IsMatch m → IsMatchGame m i p
+    → AreLegal (empty_board m.size) p.steps
+steps_legal m i p is h =
+    subst (AreLegal (empty_board m.size)) (sym h.opens)
+    (legal_after m i (opening_of m i) (first_mover (opening_of m i)) h.sides (opening_on m i is)
+    h.plays)
+
+pub all_legal : (m : Match) (i step : ℕ) (ps : List Played) → IsMatch m → AreGamesBy m i step ps
     → All (λ p. AreLegal (empty_board m.size) p.steps) ps
-all_legal m i step [] h = All-nil (λ (p : Played). AreLegal (empty_board m.size) p.steps)
-all_legal m i step (p ∷ ps) h =
-    All-cons (λ (q : Played). AreLegal (empty_board m.size) q.steps) p ps (steps_legal m i p h.1)
-    (all_legal m (i + step) step ps h.2)
+all_legal m i step [] is h = All-nil (λ (p : Played). AreLegal (empty_board m.size) p.steps)
+all_legal m i step (p ∷ ps) is h =
+    All-cons (λ (q : Played). AreLegal (empty_board m.size) q.steps) p ps
+    (steps_legal m i p is h.1) (all_legal m (i + step) step ps is h.2)

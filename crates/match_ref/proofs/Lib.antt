@@ -15,7 +15,9 @@
 -- Steps of this crate's own proofs.
 mod Dealing
 mod Legal
+mod ListLaws
 mod Determined
+mod OneMatch
 mod WordLaws
 mod TextLaws
 mod RunLaws

@@ -13,8 +13,9 @@ use Rattle.match_ref.specs.MatchTable.{match_app, match_form}
 use Rattle.match_ref.specs.MatchWords.{AreMatchWords, IsSaidSide, AskFor}
 use Rattle.match_ref.specs.Matches.{IsMatch, IsSide}
 use Rattle.match_ref.specs.declared.settings.Side.{Side}
-use Rattle.match_ref.specs.declared.table.TheConstants.{GAMES, THREADS}
+use Rattle.match_ref.specs.declared.table.TheConstants.{GAMES, OPENING, THREADS}
 use Rattle.match_ref.specs.declared.words.MatchWords.{MatchWords}
+use Rattle.match_ref.proofs.ListLaws.{few_openings, openings_on_board}
 
 pub match_reads : ReadsForm match_app match_form
 unfolding match_app
@@ -67,6 +68,8 @@ in_range : (value : TextBytes → Option TextBytes) (w : MatchWords) → AreMatc
 in_range value w h = record {
   games = number_in_range _ _ _ (value GAMES.0.now) h.games;
   threads = number_in_range _ _ _ (value THREADS.0.now) h.threads;
+  openings = few_openings w.setup.size (value OPENING.0.now) w.setup.openings h.openings;
+  on_board = openings_on_board w.setup.size (value OPENING.0.now) w.setup.openings h.openings;
   side_a = side_in_range _ _ w.setup.a h.a;
   side_b = side_in_range _ _ w.setup.b h.b;
 }

@@ -1,4 +1,5 @@
 pub mod Matches
+pub mod Openings
 pub mod Dealt
 pub mod MatchTable
 pub mod MatchWords

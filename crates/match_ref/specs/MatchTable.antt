@@ -5,16 +5,18 @@ use Rattle.option_words.specs.Command.{app_of_form}
 use Rattle.option_words.specs.Grammar.{Form, OptionTable}
 use Rattle.option_words.specs.Values.{TextBytes}
 use Rattle.match_ref.specs.declared.table.TheConstants.{SIZE, GAMES, THREADS, SEED, RECORDS}
+use Rattle.match_ref.specs.declared.table.TheConstants.{OPENING}
 use Rattle.match_ref.specs.declared.table.TheConstants.{PLAYOUTS, WORDS, EXPAND, WEIGHT}
 use Rattle.match_ref.specs.declared.table.TheConstants.{SOLVE, LOOK}
 
--- the options of the match, each with its default
+-- the options of the match, each with its default; `opening` has none
 abbrev pub match_table : OptionTable
 match_table = (SIZE.0.now, SIZE.1.now ∷ [])
     ∷ (GAMES.0.now, GAMES.1.now ∷ [])
     ∷ (THREADS.0.now, THREADS.1.now ∷ [])
     ∷ (SEED.0.now, SEED.1.now ∷ [])
     ∷ (RECORDS.0.now, RECORDS.1.now ∷ [])
+    ∷ (OPENING.0.now, [])
     ∷ []
 
 -- an option of the sides: its name for side a, that for side b, and one default

@@ -5,10 +5,11 @@ use Rattle.option_words.specs.Grammar.{Saying, word_name}
 use Rattle.option_words.specs.Lines.{IsLine, value_in}
 use Rattle.option_words.specs.Values.{IsNumberFrom, TextBytes, switch_word}
 use Rattle.match_ref.specs.MatchTable.{match_form}
+use Rattle.match_ref.specs.Openings.{AreOpenings}
 use Rattle.match_ref.specs.declared.settings.Side.{Side}
 use Rattle.match_ref.specs.declared.table.TheConstants.{SIZE, GAMES, THREADS, SEED, RECORDS}
 use Rattle.match_ref.specs.declared.table.TheConstants.{PLAYOUTS, WORDS, EXPAND, WEIGHT}
-use Rattle.match_ref.specs.declared.table.TheConstants.{SOLVE, LOOK}
+use Rattle.match_ref.specs.declared.table.TheConstants.{SOLVE, LOOK, OPENING}
 use Rattle.match_ref.specs.declared.words.MatchWords.{MatchWords}
 
 -- the name that an option of the sides has for side a, or for side b
@@ -47,6 +48,7 @@ pub record AreMatchWords (value : TextBytes → Option TextBytes) (w : MatchWord
   pub games : IsNumberFrom GAMES.2 GAMES.3 (value GAMES.0.now) w.setup.games
   pub threads : IsNumberFrom THREADS.2 THREADS.3 (value THREADS.0.now) w.setup.threads
   pub seed : IsNumberFrom SEED.2 SEED.3 (value SEED.0.now) w.setup.seed
+  pub openings : AreOpenings w.setup.size (value OPENING.0.now) w.setup.openings
   pub a : IsSaidSide value false w.setup.a
   pub b : IsSaidSide value true w.setup.b
   pub records : value RECORDS.0.now ≡ Some (switch_word w.records)

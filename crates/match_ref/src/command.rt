@@ -5,7 +5,7 @@ ghost use Rattle.clap.specs.Words.{app_of};
 ghost use Rattle.match_ref.specs.MatchTable.{match_app};
 
 use super::table::{
-    EXPAND, GAMES, LOOK, PLAYOUTS, RECORDS, SEED, SIZE, SOLVE, THREADS, WEIGHT, WORDS,
+    EXPAND, GAMES, LOOK, OPENING, PLAYOUTS, RECORDS, SEED, SIZE, SOLVE, THREADS, WEIGHT, WORDS,
 };
 use clap::Command;
 use option_words::command_with;
@@ -22,6 +22,7 @@ pub fn command<'a>(alloc: Global) -> Result<Command<'a>, AllocError>
         (THREADS.0, Some(THREADS.1)),
         (SEED.0, Some(SEED.1)),
         (RECORDS.0, Some(RECORDS.1)),
+        (OPENING.0, None),
         (PLAYOUTS.0, Some(PLAYOUTS.2)),
         (PLAYOUTS.1, Some(PLAYOUTS.2)),
         (WORDS.0, Some(WORDS.2)),

@@ -1,9 +1,11 @@
 //! Matches: many games between two settings of the search, side by side.
 //!
 //! **What it is.** A [`Match`] has two *sides*, each with the settings of its searches. In each
-//! game they take turns from the empty board on: side a is Black in the games of even number. A
-//! side plays with one worker and without a look for connections. A *match game* is the one that
-//! the match and its number determine.
+//! game they take turns from the empty board on: side a is Black in the games of even number. If
+//! the match has [`Openings`], a game begins with one, a stone of Black's that no side chose, and
+//! White moves next; two games after one another have the same one. A side plays with one worker,
+//! and looks for connections if its `look` or `solve` is above 0. If no side does, the match and
+//! its number determine a *match game*.
 //!
 //! **A caller** hands in the match and gets its games in order, or hands in the words of a command
 //! line and gets the status:
@@ -32,6 +34,8 @@
 //!
 //! **Why so.**
 //!
+//! - An opening is a step of the game, so that records show it, and no turn of a side: the side's
+//!   seeds are those of its own moves alone, as in a session that gets the opening by `play`.
 //! - A half of the games gets every other one, so that games 0 and 1 are the first of two halves in
 //!   every setting. So games that take unequally long are shared out, and the test with a gate
 //!   holds for any numbers of games and threads.
@@ -50,10 +54,12 @@
 //!   handle could count threads.
 #![tactic(auto)]
 
+mod beginning;
 mod command;
 mod halves;
 mod laws;
 mod matches;
+mod openings;
 mod passes;
 mod played;
 mod playing;
@@ -67,9 +73,10 @@ mod words;
 
 pub use laws::{match_games_are_determined, options_are_those_of_the_manual};
 pub use matches::play_match;
+pub use openings::Openings;
 pub use played::{Played, Steps};
 pub use refusals::Memory;
 pub use running::run_match;
-pub use settings::{MOST_GAMES, MOST_THREADS, Match, Side};
+pub use settings::{MOST_GAMES, MOST_OPENINGS, MOST_THREADS, Match, Side};
 pub use texts::game_line;
 pub use words::{MatchWords, read_match_words};

@@ -1,24 +1,22 @@
 //! One game.
 
-ghost use Rattle.std.specs.Prelude.{◌≡◌, ◌*◌, ◌<◌, ◌≤◌, IfOk, length, true};
+ghost use Rattle.std.specs.Prelude.{◌≡◌, ◌*◌, ◌<◌, IfOk, true};
 ghost use Rattle.hex_board.specs.Joined.{winner_of};
-ghost use Rattle.hex_game.specs.Games.{IsOnBoard, board_of, is_legal, with_step};
-ghost use Rattle.hex_game.specs.Moves.{step_of};
-ghost use Rattle.hex_game.specs.declared.moves.Move.TheVariants.{Stone};
-ghost use Rattle.hex_game.specs.declared.moves.TheConstants.{MOST_STEPS};
+ghost use Rattle.hex_game.specs.Games.{board_of};
 ghost use Rattle.hex_plan.specs.Openings.{may_move};
 ghost use Rattle.tree_words.specs.Settings.{AreInRange};
 ghost use Rattle.match_ref.specs.Matches.{IsMatch, IsMatchGame, IsTurnCell, is_side_a, side_knobs};
-ghost use Rattle.match_ref.specs.Matches.{side_means, side_of, turns_made};
+ghost use Rattle.match_ref.specs.Matches.{opening_of, side_means, side_of, turns_made};
 ghost use Rattle.match_ref.specs.declared.settings.TheConstants.{MOST_GAMES};
 
+use super::beginning::{first_mover, opened_game, opening_length, put_stone};
 use super::passes::GatePass;
 use super::played::{Played, Steps};
 use super::refusals::Memory;
 use super::settings::{Match, Side};
 use hex_board::Board;
 use hex_cells::{Cell, Colour};
-use hex_game::{Game, Move};
+use hex_game::Game;
 use hex_plan::{Means, may_move};
 use search_team::OpenGate;
 use std::alloc::{AllocError, Global};
@@ -87,11 +85,15 @@ fn side_means(side: &Side) -> Means
     }
 }
 
-// How many turns the mover made before: the players take turns.
-fn turns_made(game: &Game) -> u64
-    ensures { result ≡ turns_made game.now }
+// How many turns the mover made before in the game with this number: the sides take turns.
+fn turns_made(setup: &Match, number: u32, game: &Game) -> u64
+    ensures { result ≡ turns_made (opening_of setup.now number) game.now }
 {
-    (game.steps().len() / 2) as u64
+    let played = game
+        .steps()
+        .len()
+        .saturating_sub(opening_length(setup, number));
+    (played / 2) as u64
 }
 
 // The cell of the mover's turn after so many turns.
@@ -111,17 +113,6 @@ fn turn_cell<R: Threads + Sync>(
 {
     let turn = decided_turn(rt, alloc, board, mover, turns, knobs, means, &OpenGate)?;
     Ok(turn.cell())
-}
-
-// Puts the mover's stone on the cell.
-fn put_stone(game: &mut Game, mover: Colour, cell: Cell)
-    requires on_board { IsOnBoard (board_of game.old) (Stone cell) }
-    requires legal { is_legal game.old (step_of mover (Stone cell)) ≡ true }
-    ensures stone { game.new ≡ with_step game.old (step_of mover (Stone cell)) }
-    ensures few { length game.new.steps ≤ MOST_STEPS }
-{
-    game.play(mover, Move::Stone(cell)).unwrap();
-    game.steps_are_legal();
 }
 
 // The steps of a game, and who is joined there.
@@ -149,13 +140,12 @@ pub fn play_game<R: Threads + Sync>(
     ensures { IfOk result (IsMatchGame setup.now pass) }
 {
     let number = pass.number();
-    let bare = Board::empty(setup.size);
-    let mut game = Game::make(alloc, &bare)?;
-    let mut mover = Colour::Black;
+    let mut game = opened_game(alloc, setup, number)?;
+    let mut mover = first_mover(setup, number);
     'moves: while may_move(game.board()) {
         let knobs = side_knobs(setup, number, mover);
         let means = side_means(&side_of(setup, number, mover));
-        let turns = turns_made(&game);
+        let turns = turns_made(setup, number, &game);
         let cell = turn_cell(rt, alloc, &knobs, means, game.board(), mover, turns)?;
         put_stone(&mut game, mover, cell);
         mover = mover.other();

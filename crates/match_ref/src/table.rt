@@ -1,7 +1,7 @@
 //! The options of hexmatch, a line each. The code and the definitions of specs/MatchTable.antt and
 //! specs/MatchWords.antt read them here, and tools/check_manual compares the documents with them.
 
-use super::settings::{MOST_GAMES, MOST_THREADS};
+use super::settings::{MOST_GAMES, MOST_OPENINGS, MOST_THREADS};
 use hex_cells::Size;
 use option_words::{LongNumberOption, NumberOption};
 use tree_words::{LEAST_WORDS, MOST_EXPAND, MOST_PLAYOUTS, MOST_WORDS};
@@ -25,6 +25,9 @@ pub const SEED: LongNumberOption = ("seed", "0", 0, u64::MAX);
 
 /// `--records`: whether the record of each game is wanted, `on` or `off`; and its default.
 pub const RECORDS: (&'static str, &'static str) = ("records", "off");
+
+/// `--opening`: the list of the openings, and the most of them. By default there is none.
+pub const OPENING: (&'static str, usize) = ("opening", MOST_OPENINGS);
 
 /// `--playouts-a`, `--playouts-b`: how many playouts the side makes for a move.
 pub const PLAYOUTS: SideNumber = ("playouts-a", "playouts-b", "1000", 1, MOST_PLAYOUTS);

@@ -1,19 +1,21 @@
 //! What the words of a command line ask for: a match, and whether its records are wanted.
 
-ghost use Rattle.std.specs.Prelude.{◌≡◌, ℕ, ◌↔◌, IfOk, IfSome, Some, option_map};
+ghost use Rattle.std.specs.Prelude.{◌≡◌, ℕ, ◌↔◌, List, IfOk, IfSome, Some};
 ghost use Rattle.clap.specs.Words.{first_value, found_of};
 ghost use Rattle.option_words.specs.Values.{IsNumberFrom};
-ghost use Rattle.hex_cells.specs.declared.board_size.Size.{Size};
 ghost use Rattle.match_ref.specs.Matches.{IsMatch};
+ghost use Rattle.match_ref.specs.Openings.{AreOpenings};
 ghost use Rattle.match_ref.specs.MatchWords.{AreMatchWords, IsSaidSide, IsSideNumber, AskFor};
 ghost use Rattle.match_ref.specs.declared.settings.Side.{Side};
 ghost use Rattle.match_ref.specs.declared.words.MatchWords.{MatchWords};
 
 use super::command::command;
+use super::openings::{Openings, read_openings};
 use super::refusals::Memory;
 use super::settings::{Match, Side};
 use super::table::{
-    EXPAND, GAMES, LOOK, PLAYOUTS, RECORDS, SEED, SIZE, SOLVE, SideNumber, THREADS, WEIGHT, WORDS,
+    EXPAND, GAMES, LOOK, OPENING, PLAYOUTS, RECORDS, SEED, SIZE, SOLVE, SideNumber, THREADS,
+    WEIGHT, WORDS,
 };
 use clap::ArgMatches;
 use hex_cells::Size;
@@ -22,7 +24,7 @@ use option_words::{find, found_long_number, found_number, small_number, switch};
 use std::alloc::Global;
 
 /// The match that is asked for, and whether its records are.
-#[derive(Clone, Copy, Debug, PartialEq, Eq)]
+#[derive(Drop)]
 pub struct MatchWords {
     /// The match.
     pub setup: Match,
@@ -38,14 +40,30 @@ pub fn read_match_words(alloc: Global, words: &[Word]) -> Result<Option<MatchWor
 {
     let command = command(alloc)?;
     match find(command, words)? {
-        Some(found) => Ok(said_match(&found)),
+        Some(found) => said_match(alloc, &found),
         None => Ok(None),
     }
 }
 
 // The match that was found; none if a positional word was, or if a value is not as its option wants
 // it.
-fn said_match(found: &ArgMatches<'_>) -> Option<MatchWords>
+fn said_match(alloc: Global, found: &ArgMatches<'_>) -> Result<Option<MatchWords>, Memory>
+    ensures { IfOk result (λ r. (w : MatchWords)
+        → (r ≡ Some w) ↔ AreMatchWords (first_value (found_of found.now)) w) }
+{
+    let Some(size) = board_size(found) else {
+        return Ok(None);
+    };
+    let Some(openings) = found_openings(alloc, found, size)? else {
+        return Ok(None);
+    };
+    Ok(with_openings(found, size, openings))
+}
+
+// The same, with the board's size and the openings at hand.
+fn with_openings(found: &ArgMatches<'_>, size: Size, openings: Openings) -> Option<MatchWords>
+    requires size { IsNumberFrom SIZE.2 SIZE.3 (first_value (found_of found.now) SIZE.0.now) size }
+    requires openings { AreOpenings size (first_value (found_of found.now) OPENING.0.now) openings }
     ensures { (w : MatchWords)
         → (result ≡ Some w) ↔ AreMatchWords (first_value (found_of found.now)) w }
 {
@@ -54,10 +72,11 @@ fn said_match(found: &ArgMatches<'_>) -> Option<MatchWords>
     }
     Some(MatchWords {
         setup: Match {
-            size: board_size(found.get_str(SIZE.0))?,
+            size,
             games: found_number(found, GAMES)?,
             threads: found_number(found, THREADS)?,
             seed: found_long_number(found, SEED)?,
+            openings,
             a: side(found, false)?,
             b: side(found, true)?,
         },
@@ -65,11 +84,22 @@ fn said_match(found: &ArgMatches<'_>) -> Option<MatchWords>
     })
 }
 
-fn board_size(text: Option<&str>) -> Option<Size>
-    ensures { (n : Size) → (result ≡ Some n)
-        ↔ IsNumberFrom SIZE.2 SIZE.3 (option_map (λ t. t.now) text.entry) n }
+fn board_size(found: &ArgMatches<'_>) -> Option<Size>
+    ensures { (n : ℕ) → (result ≡ Some n)
+        ↔ IsNumberFrom SIZE.2 SIZE.3 (first_value (found_of found.now) SIZE.0.now) n }
 {
-    Size::of(small_number(text, SIZE.2, SIZE.3)?)
+    Size::of(found_number(found, SIZE)?)
+}
+
+fn found_openings(
+    alloc: Global,
+    found: &ArgMatches<'_>,
+    size: Size,
+) -> Result<Option<Openings>, Memory>
+    ensures { IfOk result (λ r. (cells : List ℕ) → (r ≡ Some cells)
+        ↔ AreOpenings size (first_value (found_of found.now) OPENING.0.now) cells) }
+{
+    read_openings(alloc, found.get_str(OPENING.0), size)
 }
 
 // What is said of side a, or of side b.

@@ -60,6 +60,17 @@ const MATCH_TWO: &str = "--size 1 --games 2 --playouts-a 1 --playouts-b 1 --thre
 
 const TWO_GAMES: &str = "0 a black 1\n1 b black 1\na 1 b 1\n";
 
+const OPENED: &str =
+    "--size 2 --games 5 --playouts-a 9 --playouts-b 9 --records on --opening a1,B1";
+
+/// Games 0, 1 and 4 have the first opening, games 2 and 3 the second.
+const FIVE_OPENED: &str = "0 a black 3\n(;FF[4]GM[11]SZ[2];B[a1];W[b1];B[a2])\n\
+    1 a white 4\n(;FF[4]GM[11]SZ[2];B[a1];W[a2];B[b1];W[b2])\n\
+    2 a black 3\n(;FF[4]GM[11]SZ[2];B[b1];W[a2];B[b2])\n\
+    3 b black 3\n(;FF[4]GM[11]SZ[2];B[b1];W[b2];B[a2])\n\
+    4 b white 4\n(;FF[4]GM[11]SZ[2];B[a1];W[a2];B[b1];W[b2])\n\
+    a 3 b 2\n";
+
 /// `gate-match-run`: so it is in a run.
 #[test]
 fn runs_meet_at_the_gate(rt: HostRuntime) -> Result<(), Fail> {
@@ -86,6 +97,8 @@ fn plays_matches(rt: HostRuntime) -> Result<(), Fail> {
             "--size 2 --games 1 --playouts-a 9 --playouts-b 9 --records=on --seed=9",
             "0 a black 3\n(;FF[4]GM[11]SZ[2];B[a2];W[b1];B[a1])\na 1 b 0\n",
         ),
+        ("--size 1 --games 2 --opening a1", TWO_GAMES),
+        (OPENED, FIVE_OPENED),
     ];
     for (line, text) in table {
         let left = run_of(&rt, line, 1_000, &OpenGate)?;
@@ -121,6 +134,20 @@ fn refuses_words(rt: HostRuntime) -> Result<(), Fail> {
         "--expand-a 1001",
         "--weight-b 1025",
         "--seed -1",
+        "--opening",
+        "--opening=",
+        "--opening a1 --opening b1",
+        "--opening a0",
+        "--opening a01",
+        "--opening a6",
+        "--opening f1",
+        "--opening a1,a6,b1",
+        "--opening ,a1",
+        "--opening a1,,b1",
+        "--opening a1,",
+        "--opening a1;b1",
+        "--opening swap-pieces",
+        "--opening a2 --size 1",
     ];
     for line in table {
         let left = run_of(&rt, line, 1_000, &OpenGate)?;
@@ -128,6 +155,23 @@ fn refuses_words(rt: HostRuntime) -> Result<(), Fail> {
         assert!(rt; left.link.given().is_empty(), "{line}");
         assert_eq!(rt; left.errors.given(), b"hexd: usage\n".as_slice(), "{line}");
     }
+    Ok(())
+}
+
+/// As many openings as there may be, and one more.
+#[test]
+fn counts_openings(rt: HostRuntime) -> Result<(), Fail> {
+    let mut line = String::from_str(rt.alloc(), "--size 1 --games 2 --opening a1")?;
+    for _ in 1..121 {
+        line.push_str(",A1")?;
+    }
+    let most = run_of(&rt, &line, 1_000, &OpenGate)?;
+    assert_eq!(rt; most.status, 0);
+    assert_eq!(rt; most.link.given(), TWO_GAMES.as_bytes());
+    line.push_str(",a1")?;
+    let more = run_of(&rt, &line, 1_000, &OpenGate)?;
+    assert_eq!(rt; more.status, 2);
+    assert!(rt; more.link.given().is_empty());
     Ok(())
 }
 

@@ -1,16 +1,17 @@
 -- A worker's table keeps what its seat owes.
 use Rattle.std.proofs.Common.{◌≡◌, ◌≢◌, ℕ, suc, ◌+◌, ◌<◌, ◌≤◌, Bool, true, false}
-use Rattle.std.proofs.Common.{cond, List, [], ◌∷◌, length, length-set, set, refl, sym, ap, ◌∙◌}
+use Rattle.std.proofs.Common.{cond, List, [], ◌∷◌, length, length-set, set, refl, sym, ap, ◌∙◌, subst}
 use Rattle.std.proofs.Common.{inl, inr, ⊎_elim, arith, get_or-set_same, get_or-set_other}
 use Rattle.std.specs.Prelude.{◌==◌, slice_index, replicate}
 use Rattle.std.proofs.lemmas.List.{get_or-replicate, get_or_past, length-replicate}
-use Rattle.std.proofs.lemmas.Bool.{eq-eqb, ne_eqb}
+use Rattle.std.proofs.lemmas.Bool.{eq-eqb, ne_eqb, cases_Bool}
 use mathlib.Core.Logic.{dite}
 use native.Mathlib.Decide.{ℕ_discrete, dec_le}
 use Rattle.tree_words.specs.Sequence.{amount_of}
 use Rattle.tree_words.specs.declared.layout.TheConstants.{VISIT}
 use Rattle.arena_rule.specs.Adds.{CountAdd, amount_at}
-use Rattle.arena_rule.specs.Owing.{Debtor, CanGive, debts_but}
+use Rattle.tree_words.specs.Settings.{Setting}
+use Rattle.arena_rule.specs.Owing.{Debtor, CanGive, debts_but, owed_part, owed_to}
 use Rattle.arena_rule.proofs.Debts.{but-here, but-else}
 use Rattle.search_team.specs.declared.holding.Sums.{Sums}
 use Rattle.search_team.specs.declared.holding.TheConstants.{SLOTS, MOST_HELD}
@@ -39,9 +40,9 @@ both-zero true n e = e
 both-zero false n e = refl
 
 -- nothing is owed
-pub holds-none : (t : Sums) → t.words ≡ replicate SLOTS 0 → t.sums ≡ replicate SLOTS 0
-    → t.most ≤ MOST_HELD → HoldsDebts t []
-holds-none t w s most =
+pub holds-none : (z : Setting) (t : Sums) → t.words ≡ replicate SLOTS 0 → t.sums ≡ replicate SLOTS 0
+    → t.most ≤ MOST_HELD → t.most ≤ owed_part z → HoldsDebts z t []
+holds-none z t w s most part =
     let zero : (i : ℕ) → slice_index t.sums i ≡ 0
     = λ i. ap (λ (l : List ℕ). slice_index l i) s ∙ zeros SLOTS i in
     let nothing : ℕ = 0 in
@@ -50,15 +51,16 @@ holds-none t w s most =
       words = ap length w ∙ long;
       sums = ap length s ∙ long;
       most = most;
+      part = part;
       few = λ i. omega (arith, zero i);
       placed = λ i. inl (zero i);
       owes = λ k. sym (both-zero (slice_index t.words (slot_of k) == k) (slice_index t.sums (slot_of k)) (zero (slot_of k)));
     }
 
 -- the sum of a slot may be given
-pub can-give : (t : Sums) (d : Debtor) (i n : ℕ) → HoldsDebts t d.owed → n ≡ slice_index t.sums i
+pub can-give : (z : Setting) (t : Sums) (d : Debtor) (i n : ℕ) → HoldsDebts z t d.owed → n ≡ slice_index t.sums i
     → n ≢ 0 → CanGive d (slice_index t.words i) n
-can-give t d i n h e some =
+can-give z t d i n h e some =
     let w : ℕ = slice_index t.words i in
     let at : slot_of w ≡ i = ⊎_elim
     (λ (z : slice_index t.sums i ≡ 0). absurd (some (e ∙ z)))
@@ -72,11 +74,11 @@ can-give t d i n h e some =
     }
 
 -- and is none afterwards
-pub holds-given : (t u : Sums) (owed owed' : List CountAdd) (i : ℕ) → i < SLOTS
-    → HoldsDebts t owed → slice_index t.sums i ≢ 0 → u.words ≡ t.words → u.sums ≡ set t.sums i 0
+pub holds-given : (z : Setting) (t u : Sums) (owed owed' : List CountAdd) (i : ℕ) → i < SLOTS
+    → HoldsDebts z t owed → slice_index t.sums i ≢ 0 → u.words ≡ t.words → u.sums ≡ set t.sums i 0
     → u.most ≡ t.most → owed' ≡ debts_but (slice_index t.words i) owed
-    → HoldsDebts u owed'
-holds-given t u owed owed' i l h some w s m o =
+    → HoldsDebts z u owed'
+holds-given z t u owed owed' i l h some w s m o =
     let word : ℕ = slice_index t.words i in
     let at : slot_of word ≡ i = ⊎_elim
     (λ (z : slice_index t.sums i ≡ 0). absurd (some z))
@@ -90,6 +92,7 @@ holds-given t u owed owed' i l h some w s m o =
       words = ap length w ∙ h.words;
       sums = ap length s ∙ length-set t.sums i 0 ∙ h.sums;
       most = omega (arith, m, h.most);
+      part = omega (arith, m, h.part);
       few = λ j. dite (ℕ_discrete j i)
           (λ (q : j ≡ i). omega (arith, ap (slice_index u.sums) q, here))
           (λ (ne : j ≢ i). omega (arith, away j ne, h.few j, m));
@@ -121,10 +124,10 @@ holds-given t u owed owed' i l h some w s m o =
         (ap (λ (j : ℕ). slice_index t.words j == k) q ∙ ne_eqb (slice_index t.words i) k (λ z. ne (sym z))))
 
 -- an empty slot gets another word
-pub holds-taken : (t u : Sums) (owed : List CountAdd) (i word : ℕ) → i < SLOTS
-    → HoldsDebts t owed → slice_index t.sums i ≡ 0 → u.words ≡ set t.words i word
-    → u.sums ≡ t.sums → u.most ≡ t.most → HoldsDebts u owed
-holds-taken t u owed i word l h zero w s m =
+pub holds-taken : (z : Setting) (t u : Sums) (owed : List CountAdd) (i word : ℕ) → i < SLOTS
+    → HoldsDebts z t owed → slice_index t.sums i ≡ 0 → u.words ≡ set t.words i word
+    → u.sums ≡ t.sums → u.most ≡ t.most → HoldsDebts z u owed
+holds-taken z t u owed i word l h zero w s m =
     let same : (j : ℕ) → slice_index u.sums j ≡ slice_index t.sums j
     = λ j. ap (λ (k : List ℕ). slice_index k j) s in
     let away : (j : ℕ) → j ≢ i → slice_index u.words j ≡ slice_index t.words j
@@ -133,6 +136,7 @@ holds-taken t u owed i word l h zero w s m =
       words = ap length w ∙ length-set t.words i word ∙ h.words;
       sums = ap length s ∙ h.sums;
       most = omega (arith, m, h.most);
+      part = omega (arith, m, h.part);
       few = λ j. omega (arith, same j, h.few j, m);
       placed = λ j. dite (ℕ_discrete j i)
           (λ (q : j ≡ i). inl (same j ∙ ap (slice_index t.sums) q ∙ zero))
@@ -150,14 +154,26 @@ holds-taken t u owed i word l h zero w s m =
           ∙ (λ j. cond (sym (away (slot_of k) ne) j == k) (sym (same (slot_of k)) j) 0));
     }
 
+-- what is owed to a word is at most the sum of its slot, so one add more may be owed to it
+pub may-owe : (z : Setting) (t : Sums) (d : Debtor) (i word : ℕ) → z ≡ d.view.shape
+    → HoldsDebts z t d.owed → slot_of word ≡ i → slice_index t.sums i ≤ t.most
+    → owed_to word d ≤ owed_part d.view.shape
+may-owe z t d i word shape h at low = subst (λ (k : Setting). owed_to word d ≤ owed_part k) shape
+    (⊎_elim
+    (λ (q : (slice_index t.words (slot_of word) == word) ≡ true).
+    omega (arith, h.owes word, ap (λ (b : Bool). cond b (slice_index t.sums (slot_of word)) 0) q, ap (slice_index t.sums) at, low, h.part))
+    (λ (q : (slice_index t.words (slot_of word) == word) ≡ false).
+    omega (arith, h.owes word, ap (λ (b : Bool). cond b (slice_index t.sums (slot_of word)) 0) q))
+    (cases_Bool (slice_index t.words (slot_of word) == word)))
+
 -- an add more is owed to a word in its slot
-pub holds-owed : (t u : Sums) (owed owed' : List CountAdd) (i n word : ℕ) (won : Bool) → i < SLOTS
-    → HoldsDebts t owed → slot_of word ≡ i → slice_index t.words i ≡ word
+pub holds-owed : (z : Setting) (t u : Sums) (owed owed' : List CountAdd) (i n word : ℕ) (won : Bool) → i < SLOTS
+    → HoldsDebts z t owed → slot_of word ≡ i → slice_index t.words i ≡ word
     → slice_index t.sums i ≤ t.most → n ≡ slice_index t.sums i + amount_of won
     → u.words ≡ t.words → u.sums ≡ set t.sums i n → u.most ≡ t.most
     → owed' ≡ record { word = word; won = won } ∷ owed
-    → HoldsDebts u owed'
-holds-owed t u owed owed' i n word won l h at has low is w s m o =
+    → HoldsDebts z u owed'
+holds-owed z t u owed owed' i n word won l h at has low is w s m o =
     let here : slice_index u.sums i ≡ n
     = ap (λ (k : List ℕ). slice_index k i) s ∙ get_or-set_same t.sums i n 0 (omega (arith, l, h.sums)) in
     let away : (j : ℕ) → j ≢ i → slice_index u.sums j ≡ slice_index t.sums j
@@ -166,6 +182,7 @@ holds-owed t u owed owed' i n word won l h at has low is w s m o =
       words = ap length w ∙ h.words;
       sums = ap length s ∙ length-set t.sums i n ∙ h.sums;
       most = omega (arith, m, h.most);
+      part = omega (arith, m, h.part);
       few = λ j. dite (ℕ_discrete j i)
           (λ (q : j ≡ i). omega (arith, ap (slice_index u.sums) q, here, is, low, small won, m))
           (λ (ne : j ≢ i). omega (arith, away j ne, h.few j, m));
@@ -229,10 +246,10 @@ holds-owed t u owed owed' i n word won l h at has low is w s m o =
         omega (arith, off, h.owes k, same)))
 
 -- if no slot has a sum, nothing is owed
-pub holds-nothing : (t : Sums) (owed : List CountAdd) → HoldsDebts t owed
+pub holds-nothing : (z : Setting) (t : Sums) (owed : List CountAdd) → HoldsDebts z t owed
     → ((j : ℕ) → j < SLOTS → slice_index t.sums j ≡ 0) → owed ≡ []
-holds-nothing t [] h zero = refl
-holds-nothing t (a ∷ owed) h zero =
+holds-nothing z t [] h zero = refl
+holds-nothing z t (a ∷ owed) h zero =
     let none : sum_at t a.word ≡ 0
     = both-zero (slice_index t.words (slot_of a.word) == a.word) (slice_index t.sums (slot_of a.word))
     (zero (slot_of a.word) (omega arith)) in

@@ -27,9 +27,9 @@ fn add(
     requires belongs { Belongs (with_climb walker.now climb.old) seat.old.view }
     requires more { climb.old ≢ [] }
     requires lone { seat.old.view.whole ≡ None }
-    requires debts { HoldsDebts sums.old seat.old.owed }
+    requires debts { HoldsDebts tree.now.shape sums.old seat.old.owed }
     ensures own { IsOf tree.now seat.new }
-    ensures debts { HoldsDebts sums.new seat.new.owed }
+    ensures debts { HoldsDebts tree.now.shape sums.new seat.new.owed }
     ensures belongs { Belongs (with_climb walker.now climb.new) seat.new.view }
     ensures step { MakesStep (with_climb walker.now climb.old) seat.old.view
         (with_climb walker.now climb.new) seat.new.view }
@@ -47,9 +47,9 @@ fn add_half(tree: &Tree, seat: &mut TreeSeat, walker: &Walker, climb: &mut Climb
     requires own { IsOf tree.now seat.old }
     requires belongs { Belongs (with_climb walker.now climb.old) seat.old.view }
     requires lone { seat.old.view.whole ≡ None }
-    requires debts { HoldsDebts sums.old seat.old.owed }
+    requires debts { HoldsDebts tree.now.shape sums.old seat.old.owed }
     ensures own { IsOf tree.now seat.new }
-    ensures debts { HoldsDebts sums.new seat.new.owed }
+    ensures debts { HoldsDebts tree.now.shape sums.new seat.new.owed }
     ensures run { HasRun (with_climb walker.now climb.old) seat.old.view
         (with_climb walker.now climb.new) seat.new.view }
     ensures node { climb.old ≢ [] → walker.now.node < PAST_WORDS }
@@ -68,9 +68,9 @@ pub(crate) fn make_seen_adds(tree: &Tree, seat: &mut TreeSeat, walker: &mut Walk
     requires own { IsOf tree.now seat.old }
     requires belongs { Belongs walker.old seat.old.view }
     requires lone { seat.old.view.whole ≡ None }
-    requires debts { HoldsDebts sums.old seat.old.owed }
+    requires debts { HoldsDebts tree.now.shape sums.old seat.old.owed }
     ensures own { IsOf tree.now seat.new }
-    ensures debts { HoldsDebts sums.new seat.new.owed }
+    ensures debts { HoldsDebts tree.now.shape sums.new seat.new.owed }
     ensures run { HasRun walker.old seat.old.view walker.new seat.new.view }
 {
     let Some(mut climb) = walker.climb() else {

@@ -3,7 +3,9 @@
 //! An add that is held back makes one give more at most, and the end one for each slot: nothing is
 //! tried again, and nobody is waited for.
 
-ghost use Rattle.std.specs.Prelude.{◌≡◌, ◌≢◌, ◌<◌, ◌≤◌, ◌*◌, ℕ, Bool, [], slice_index, None};
+ghost use Rattle.std.specs.Prelude.{◌≡◌, ◌≢◌, ◌<◌, ◌≤◌, ◌*◌, ◌^◌, ℕ, Bool, [], slice_index};
+ghost use Rattle.std.specs.Prelude.{None};
+ghost use Rattle.tree_words.specs.Settings.{Setting};
 ghost use Rattle.tree_words.specs.declared.settings.TheConstants.{MOST_WORKERS};
 ghost use Rattle.tree_words.specs.declared.steps.Op.TheVariants.{Add, Done};
 ghost use Rattle.arena_rule.specs.Fits.{FitsStep};
@@ -13,6 +15,7 @@ ghost use Rattle.arena_rule.specs.Owing.{IsSeenWord};
 ghost use Rattle.tree_rule.specs.Seats.{IsOf};
 ghost use Rattle.search_team.specs.Debts.{slot_of, HoldsDebts};
 
+use arena_rule::MOST_OWED_VISITS;
 use tree_rule::{Tree, TreeSeat};
 use tree_words::Op;
 use tree_words::layout::{NODE_WORDS, VISIT};
@@ -25,9 +28,17 @@ pub(crate) const SLOTS: usize = 16_384;
 /// search took as long.
 const HOT: u64 = 64 * VISIT;
 
-/// All workers together hold back so many visits of one word: each its part of them, and at most
-/// one more. So what a word lacks doesn't grow with their number.
-pub(crate) const MOST_HELD: u64 = HOT;
+/// All workers together hold back so much of one word: each its part of it, and at most one visit
+/// more. So what a word lacks doesn't grow with their number.
+pub(crate) const MOST_HELD: u64 = MOST_OWED_VISITS * VISIT;
+
+/// A law of these limits, with nothing to run: a word is held back from its 64th visit, all workers
+/// hold back 64 visits of it, and each has 16,384 slots. The numbers stand bare on purpose: of a
+/// name the law would hold whatever its number.
+pub fn held_adds_have_limits()
+    ensures visits { (HOT ≡ 64 * 2 ^ 32) × (MOST_HELD ≡ 64 * 2 ^ 32) }
+    ensures slots { SLOTS ≡ 16384 }
+{}
 
 /// What a worker owes: in each slot a seen word, and the sum of the adds to it that are held back.
 /// A word has one slot. The words that are held back are those that stand in their slot. A sum of
@@ -43,7 +54,7 @@ impl Sums {
     /// Nothing is owed, and no word is held back, by one of so many workers.
     pub(crate) fn none(workers: u32) -> Sums
         requires { (1 ≤ workers) × (workers ≤ MOST_WORKERS) }
-        ensures none { HoldsDebts result [] }
+        ensures none { (s : Setting) → s.knobs.workers ≡ workers → HoldsDebts s result [] }
         ensures part { workers * result.most ≤ MOST_HELD }
     {
         Sums {
@@ -68,10 +79,10 @@ fn slot(word: u32) -> usize
 fn give_slot(tree: &Tree, seat: &mut TreeSeat, sums: &mut Sums, i: usize)
     requires own { IsOf tree.now seat.old }
     requires inside { i < SLOTS }
-    requires debts { HoldsDebts sums.old seat.old.owed }
+    requires debts { HoldsDebts tree.now.shape sums.old seat.old.owed }
     ensures own { IsOf tree.now seat.new }
     ensures view { seat.new.view ≡ seat.old.view }
-    ensures debts { HoldsDebts sums.new seat.new.owed }
+    ensures debts { HoldsDebts tree.now.shape sums.new seat.new.owed }
     ensures none { slice_index sums.new.sums i ≡ 0 }
     ensures words { sums.new.words ≡ sums.old.words }
     ensures most { sums.new.most ≡ sums.old.most }
@@ -89,10 +100,10 @@ fn give_slot(tree: &Tree, seat: &mut TreeSeat, sums: &mut Sums, i: usize)
 fn make_room(tree: &Tree, seat: &mut TreeSeat, sums: &mut Sums, i: usize)
     requires own { IsOf tree.now seat.old }
     requires inside { i < SLOTS }
-    requires debts { HoldsDebts sums.old seat.old.owed }
+    requires debts { HoldsDebts tree.now.shape sums.old seat.old.owed }
     ensures own { IsOf tree.now seat.new }
     ensures view { seat.new.view ≡ seat.old.view }
-    ensures debts { HoldsDebts sums.new seat.new.owed }
+    ensures debts { HoldsDebts tree.now.shape sums.new seat.new.owed }
     ensures words { sums.new.words ≡ sums.old.words }
     ensures low { slice_index sums.new.sums i ≤ sums.new.most }
 {
@@ -105,10 +116,10 @@ fn make_room(tree: &Tree, seat: &mut TreeSeat, sums: &mut Sums, i: usize)
 #[inline(never)]
 fn take_slot(tree: &Tree, seat: &mut TreeSeat, sums: &mut Sums, word: u32)
     requires own { IsOf tree.now seat.old }
-    requires debts { HoldsDebts sums.old seat.old.owed }
+    requires debts { HoldsDebts tree.now.shape sums.old seat.old.owed }
     ensures own { IsOf tree.now seat.new }
     ensures view { seat.new.view ≡ seat.old.view }
-    ensures debts { HoldsDebts sums.new seat.new.owed }
+    ensures debts { HoldsDebts tree.now.shape sums.new seat.new.owed }
 {
     let i = slot(word);
     give_slot(tree, seat, sums, i);
@@ -119,13 +130,13 @@ fn take_slot(tree: &Tree, seat: &mut TreeSeat, sums: &mut Sums, word: u32)
 #[inline(always)]
 fn owe(tree: &Tree, seat: &mut TreeSeat, sums: &mut Sums, word: u32, won: bool)
     requires own { IsOf tree.now seat.old }
-    requires debts { HoldsDebts sums.old seat.old.owed }
+    requires debts { HoldsDebts tree.now.shape sums.old seat.old.owed }
     requires lone { seat.old.view.whole ≡ None }
     requires fits { FitsStep seat.old.view (Add word won) }
     requires seen { IsSeenWord seat.old.view word }
     requires has { slice_index sums.old.words (slot_of word) ≡ word }
     ensures own { IsOf tree.now seat.new }
-    ensures debts { HoldsDebts sums.new seat.new.owed }
+    ensures debts { HoldsDebts tree.now.shape sums.new seat.new.owed }
     ensures answer { MayAnswer seat.old.view (Add word won) 0 }
     ensures view { seat.new.view ≡ after seat.old.view (Add word won) 0 }
 {
@@ -140,13 +151,13 @@ fn owe(tree: &Tree, seat: &mut TreeSeat, sums: &mut Sums, word: u32, won: bool)
 #[inline(always)]
 pub(crate) fn make_or_owe(tree: &Tree, seat: &mut TreeSeat, sums: &mut Sums, op: Op) -> u64
     requires own { IsOf tree.now seat.old }
-    requires debts { HoldsDebts sums.old seat.old.owed }
+    requires debts { HoldsDebts tree.now.shape sums.old seat.old.owed }
     requires lone { seat.old.view.whole ≡ None }
     requires fits { FitsStep seat.old.view op }
     requires step { op ≢ Done }
     requires seen { (word : ℕ) (won : Bool) → op ≡ Add word won → IsSeenWord seat.old.view word }
     ensures own { IsOf tree.now seat.new }
-    ensures debts { HoldsDebts sums.new seat.new.owed }
+    ensures debts { HoldsDebts tree.now.shape sums.new seat.new.owed }
     ensures answer { MayAnswer seat.old.view op result }
     ensures view { seat.new.view ≡ after seat.old.view op result }
 {
@@ -167,7 +178,7 @@ pub(crate) fn make_or_owe(tree: &Tree, seat: &mut TreeSeat, sums: &mut Sums, op:
 /// Gives all that is owed.
 pub(crate) fn give_all(tree: &Tree, seat: &mut TreeSeat, sums: &mut Sums)
     requires own { IsOf tree.now seat.old }
-    requires debts { HoldsDebts sums.old seat.old.owed }
+    requires debts { HoldsDebts tree.now.shape sums.old seat.old.owed }
     ensures own { IsOf tree.now seat.new }
     ensures view { seat.new.view ≡ seat.old.view }
     ensures nothing { seat.new.owed ≡ [] }

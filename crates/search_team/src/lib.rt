@@ -69,6 +69,7 @@ mod working;
 mod writing;
 
 pub use counting::CountingGate;
+pub use holding::held_adds_have_limits;
 pub use searching::{search, search_within};
 pub use seq_search::{Gate, OpenGate};
 pub use working::work;

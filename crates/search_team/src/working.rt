@@ -22,7 +22,9 @@ use walker::Walker;
 /// words. The worker holds adds to seen words with many visits back, and gives them all before he
 /// ends.
 ///
-/// It takes no memory and never waits. The gate is passed as its trait says.
+/// It takes no memory and never waits. The gate is passed as its trait says. It is a call of its
+/// own, so that a stack has one table of sums and not one for each half of a team.
+#[inline(never)]
 pub fn work<G: Gate>(tree: &Tree, seat: &mut TreeSeat, shape: &Shape, worker: u32, gate: &G)
     requires shape { tree.now.shape ≡ shape.now }
     requires fresh { IsFresh tree.now seat.old 1 }

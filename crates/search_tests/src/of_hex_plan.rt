@@ -1,5 +1,5 @@
-//! The seeds of turns, and when no turn is made. What is planned is shown by whole sessions, rows
-//! of session_tests.
+//! The seeds of turns, when no turn is made, and how many positions a plan took. What else is
+//! planned is shown by whole sessions, rows of session_tests.
 
 ghost use Rattle.std.specs.Prelude.{IfSome};
 ghost use Rattle.hex_board.specs.Positions.{AllEmpty};
@@ -7,7 +7,8 @@ ghost use Rattle.tree_words.specs.Settings.{IsAny};
 
 use hex_board::Board;
 use hex_cells::{Cell, CellSet, Colour, Size};
-use hex_plan::{may_move, turn_shape};
+use hex_plan::{Means, Planned, may_move, plan, turn_shape};
+use std::alloc::Global;
 use std::test::Fail;
 use tree_words::Knobs;
 
@@ -62,5 +63,41 @@ fn no_turn_is_made_where_black_is_joined(rt: HostRuntime) -> Result<(), Fail> {
         .with(Cell::at(size, 0, 1));
     assert!(rt; !may_move(&Board::of(size, column, CellSet::none())));
     assert!(rt; may_move(&Board::of(size, CellSet::none(), column)));
+    Ok(())
+}
+
+// What is planned for White on the board, if a turn may be made there.
+fn planned(alloc: Global, board: &Board, means: Means) -> Result<Planned, Fail> {
+    if !may_move(board) {
+        return Err(Fail::from("no turn may be made"));
+    }
+    let Ok(planned) = plan(alloc, board, Colour::White, means) else {
+        return Err(Fail::from("memory"));
+    };
+    Ok(planned)
+}
+
+// After Black's d1 five positions show that White loses.
+#[test]
+fn plan_tells_how_many_positions_it_took(rt: HostRuntime) -> Result<(), Fail> {
+    let size = Size::of(4).ok_or("a size")?;
+    let black = CellSet::none().with(Cell::at(size, 3, 0));
+    let board = Board::of(size, black, CellSet::none());
+    let table = [
+        (true, 20_000, 5),
+        (true, 5, 5),
+        (true, 3, 3),
+        (true, 0, 0),
+        (false, 5, 0),
+    ];
+    for (hsearch, solve, entered) in table {
+        let means = Means {
+            hsearch,
+            solve,
+            look: 0,
+        };
+        let planned = planned(rt.alloc(), &board, means)?;
+        assert_eq!(rt; planned.entered, entered, "{hsearch} {solve}");
+    }
     Ok(())
 }

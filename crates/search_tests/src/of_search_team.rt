@@ -13,7 +13,7 @@ use std::sync::atomic::{AtomicBool, AtomicU32, Ordering};
 use std::test::Fail;
 use std::thread;
 use tree_words::layout::RECORDS_AT;
-use tree_words::{Closed, Knobs, Shape};
+use tree_words::{Closed, Knobs, MOST_WORKERS, Shape};
 
 // The empty board of a size, Black to move.
 fn empty_board(size: u32, workers: u32, playouts: u32, words: u32) -> Option<Shape>
@@ -21,7 +21,7 @@ fn empty_board(size: u32, workers: u32, playouts: u32, words: u32) -> Option<Sha
 {
     let board = Board::of(Size::of(size)?, CellSet::none(), CellSet::none());
     let allowed = board.empties();
-    let in_range = (1..=8).contains(&workers)
+    let in_range = (1..=MOST_WORKERS).contains(&workers)
         && (1..=1_000).contains(&playouts)
         && (1_024..=16_777_216).contains(&words);
     if allowed.least().is_none() || !in_range {
@@ -98,7 +98,7 @@ impl Gate for MeetingGate {
 // before all have come. A team that works one half after the other misses.
 #[test]
 fn all_workers_meet(rt: HostRuntime) -> Result<(), Fail> {
-    for workers in [2, 4, 8] {
+    for workers in [2, 8, MOST_WORKERS] {
         let shape = empty_board(3, workers, workers, 1_024).ok_or("a shape")?;
         let gate = MeetingGate::new(workers);
         let _closed = search(&rt, rt.alloc(), &shape, &gate)?;

@@ -52,6 +52,7 @@
 mod closed_tree;
 mod laws;
 pub mod layout;
+mod limits;
 mod opening;
 mod readings;
 mod roots;
@@ -63,6 +64,7 @@ mod writing;
 
 pub use closed_tree::Closed;
 pub use laws::{opening_words_are_told, told_blocks_are_linked, words_show_one_tree};
+pub use limits::words_stand_where_they_are_drawn;
 pub use opening::make_opening;
 pub use readings::{block, cell_of, node, visits_of, wins_of};
 pub use roots::{Memory, Row, best, report};

@@ -4,12 +4,14 @@ use Rattle.std.proofs.Common.{◌∙◌, subst}
 use Rattle.std.specs.Prelude.{is_some}
 use Rattle.std.proofs.lemmas.Bool.{eqb-true}
 use Rattle.hex_cells.specs.Sets.{has, with_cell}
+use Rattle.hex_cells.specs.declared.colours.Colour.{Colour}
 use Rattle.hex_cells.proofs.Bits.{has_none}
 use Rattle.hex_cells.proofs.WithCell.{has_with_cell}
 use Rattle.hex_board.specs.Positions.{AllEmpty, Position, is_empty_at}
 use Rattle.look_ahead.specs.Looked.{LookedData}
+use Rattle.hex_plan.specs.Good.{IsLookedFor}
 use Rattle.hex_plan.specs.Plans.{AllowsEmpties, IsSearchAmong}
-use Rattle.hex_plan.specs.Turns.{ChoseAmong, searched_cells}
+use Rattle.hex_plan.specs.Turns.{ChoseAmong, IsLookedAt, searched_cells}
 use Rattle.hex_plan.specs.declared.types.Plan.{Plan}
 use Rattle.hex_plan.specs.declared.types.Plan.TheVariants.{Win, Search}
 
@@ -32,6 +34,20 @@ pub searched_empty : (board : Position) (plan : Plan) (allowed : ℕ) (looked : 
 searched_empty board (Win cert cell) allowed looked h among chosen = absurd among
 searched_empty board (Search threats cells lost) allowed looked h among chosen
     = chosen_empty board allowed looked (subst (AllEmpty board) among h.1) chosen
+
+-- a plan is a search among one set of cells
+one_set : (plan : Plan) (allowed cells : ℕ) → IsSearchAmong plan allowed → IsSearchAmong plan cells
+    → allowed ≡ cells
+one_set (Win cert cell) allowed cells h g = absurd h
+one_set (Search threats both lost) allowed cells h g = sym h ∙ g
+
+-- the look-ahead is one of what the plan allows
+pub looked_for : (board : Position) (player : Colour) (plan : Plan) (allowed budget : ℕ)
+    (looked : Option LookedData) → IsSearchAmong plan allowed
+    → IsLookedAt board player allowed budget looked → IsLookedFor board player plan budget looked
+looked_for board player plan allowed budget looked among at cells is =
+    subst (λ set. IsLookedAt board player set budget looked)
+    (one_set plan allowed cells among is) at
 
 -- nobody is joined on a board on which a turn may be made
 pub nobody : {C : Type 0} (o : Option C) → not (is_some o) ≡ true → o ≡ None

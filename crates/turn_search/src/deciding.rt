@@ -3,13 +3,13 @@
 ghost use Rattle.std.specs.Prelude.{◌≡◌, true, IfOk, is_some};
 ghost use Rattle.hex_plan.specs.Good.{looks_ahead};
 ghost use Rattle.hex_plan.specs.Openings.{may_move};
-ghost use Rattle.hex_plan.specs.Turns.{ChoseAmong, searched_cells};
+ghost use Rattle.hex_plan.specs.Turns.{ChoseAmong, IsLookedAt, searched_cells};
 ghost use Rattle.tree_words.specs.Settings.{AreInRange, IsAny};
 ghost use Rattle.turn_search.specs.Owed.{IsOwed};
 
 use hex_board::Board;
 use hex_cells::{CellSet, Colour};
-use hex_plan::{Means, Memory, Planned, Turn, plan, turn_shape};
+use hex_plan::{Means, Memory, Turn, plan, turn_shape};
 use look_ahead::{Look, Looked, Root};
 use search_team::{Gate, search};
 use std::alloc::Global;
@@ -42,7 +42,7 @@ pub fn decided_turn<R: Threads + Sync, G: Gate + Sync>(
     let Some(allowed) = planned.allowed() else {
         return Ok(Turn::won(board, colour, turns, planned));
     };
-    let looked = looked_at(alloc, board, colour, &planned, allowed, means)?;
+    let looked = looked_at(alloc, board, colour, allowed, means)?;
     let cells = searched_cells(allowed, &looked);
     let shape = turn_shape(board, colour, cells, knobs, turns);
     let Ok(closed) = search(rt, alloc, &shape, gate) else {
@@ -56,13 +56,13 @@ fn looked_at(
     alloc: Global,
     board: &Board,
     colour: Colour,
-    planned: &Planned,
     allowed: CellSet,
     means: Means,
 ) -> Result<Option<Looked>, Memory>
     requires { IsAny allowed }
     ensures there { IfOk result (λ looked. is_some looked ≡ looks_ahead means) }
     ensures chosen { IfOk result (ChoseAmong allowed) }
+    ensures look { IfOk result (IsLookedAt board.now colour allowed means.look) }
 {
     if !means.looks_ahead() {
         return Ok(None);
@@ -70,12 +70,7 @@ fn looked_at(
     let Ok(mut look) = Look::make(alloc) else {
         return Err(Memory);
     };
-    let root = Root {
-        board,
-        colour,
-        own: planned.own.as_ref(),
-        other: planned.other.as_ref(),
-    };
+    let root = Root { board, colour };
     match look.choose(alloc, &root, allowed, means.look) {
         Ok(looked) => Ok(Some(looked)),
         Err(_) => Err(Memory),

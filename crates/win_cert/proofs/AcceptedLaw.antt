@@ -69,7 +69,7 @@ claim_good c kind i g h =
     (not-false (list_all (λ j. may_take s (entry_at c j)) (i ∷ [])) (clear BadReference)) in
     let w = some_named s (entry_at c i) t.0 in
     let all : Each (IsLineTaken c s) (w.0 ∷ [])
-    = subst (λ es. Each (IsLineTaken c s) es) w.1 (taken c s g clear) in
+    = subst (λ es. Each (IsLineTaken c s) es) w.1 (taken c s g clear refl refl) in
     let edges : list_all (is_edge_entry c.base) (w.0 ∷ []) ≡ true
     = subst (λ es. list_all (is_edge_entry c.base) es ≡ true) w.1
     (not-false (list_all (is_edge_entry c.base) (entries_at c (i ∷ []))) (clear NotEdges)) in

@@ -23,11 +23,6 @@ pub clear_append : (c : Context) (xs ys : List Line) → AreClear c xs
 clear_append c [] ys h g = g
 clear_append c (x ∷ xs) ys h g = (h.0, clear_append (context_after c x) xs ys h.1 g)
 
--- the first of the lines alone
-pub clear_front : (c : Context) (xs ys : List Line) → AreClear c (xs ++ ys) → AreClear c xs
-clear_front c [] ys h = tt
-clear_front c (x ∷ xs) ys h = (h.0, clear_front (context_after c x) xs ys h.1)
-
 pub base_after : (c : Context) (xs : List Line) → (after_lines c xs).base ≡ c.base
 base_after c [] = refl
 base_after c (x ∷ xs) = base_after (context_after c x) xs

@@ -11,8 +11,7 @@ use Rattle.conn_store.specs.declared.entries.Kind.TheVariants.{Full}
 use Rattle.win_cert.specs.Lines.{Steps, steps_after, is_nothing, lines_of, steps_in, with_lines}
 use Rattle.win_cert.specs.Named.{statement_named}
 use Rattle.win_cert.specs.Texts.{ended, kind_word, line_feed, line_words, space}
-use Rattle.win_cert.specs.Writable.{IsLineOf}
-use Rattle.win_cert.specs.declared.certs.TheConstants.{MOST_LINES}
+use Rattle.win_cert.specs.Writable.{IsLineOf, most_lines}
 use Rattle.win_cert.specs.declared.lines.Line.{Line}
 use Rattle.win_cert.specs.declared.lines.TheConstants.{MOST_NUMBER}
 use Rattle.win_cert.specs.declared.refusals.CertError.{CertError}
@@ -69,23 +68,23 @@ at_limit : (b : Bool) (line : Line) (later : Result Steps CertError)
 at_limit true line later h = refl
 at_limit false line later h = ap (with_lines (line ∷ [])) (h refl)
 
-next_below : (k : ℕ) → eqb k MOST_LINES ≡ false → k ≤ MOST_LINES → suc k ≤ MOST_LINES
-next_below k under few = let other = not_from_Decides (eqb k MOST_LINES)
-    (Decides-eqb k MOST_LINES) under in omega (arith, other)
+next_below : (v k : ℕ) → eqb k (most_lines v) ≡ false → k ≤ most_lines v → suc k ≤ most_lines v
+next_below v k under few = let other = not_from_Decides (eqb k (most_lines v))
+    (Decides-eqb k (most_lines v)) under in omega (arith, other)
 
 pub too_many_back : (v n k : ℕ) (lines : List Line) (rest : TextLines) → n ≤ 11
-    → All (IsLineOf v n) lines → k ≤ MOST_LINES
-    → k + length lines ≡ MOST_LINES + 1 → rest ≢ []
+    → All (IsLineOf v n) lines → k ≤ most_lines v
+    → k + length lines ≡ most_lines v + 1 → rest ≢ []
     → steps_in v n k (map (line_words n) lines ++ rest) ≡ Err TooManyLines
 too_many_back v n k [] rest size good few long some = absurd (omega (arith, long))
 too_many_back v n k (line ∷ lines) rest size good few long some =
     let later = map (line_words n) lines ++ rest in
     steps_more v n k (line_words n line) later (later_some (map (line_words n) lines) rest some)
-    ∙ ap (λ o. steps_after k o later (steps_in v n (suc k) later))
+    ∙ ap (λ o. steps_after v k o later (steps_in v n (suc k) later))
     (step_back v n (Derivation line) size (good 0 line (omega arith)))
-    ∙ at_limit (eqb k MOST_LINES) line (steps_in v n (suc k) later)
+    ∙ at_limit (eqb k (most_lines v)) line (steps_in v n (suc k) later)
     (λ below. too_many_back v n (suc k) lines rest size
-    (All-tail (IsLineOf v n) line lines good) (next_below k below few) (omega (arith, long)) some)
+    (All-tail (IsLineOf v n) line lines good) (next_below v k below few) (omega (arith, long)) some)
 
 pub record AreTooMany (v n k : ℕ) (lines : TextLines) : Type 0 where
   pub front : List Line
@@ -93,7 +92,7 @@ pub record AreTooMany (v n k : ℕ) (lines : TextLines) : Type 0 where
   pub is : lines ≡ map (line_words n) front ++ rest
   pub more : rest ≢ []
   pub good : All (IsLineOf v n) front
-  pub long : k + length front ≡ MOST_LINES + 1
+  pub long : k + length front ≡ most_lines v + 1
 
 not_too_many : {A : Type 0} (b : Bool) (x : A) (m : ℕ)
     → cond b (Ok x) (Err (NotCert m)) ≡ Err TooManyLines → ⊥
@@ -102,9 +101,9 @@ not_too_many false x m e = cc
 
 too_many_or : (v n k : ℕ) (words : Words) (rest : TextLines) (later : Result Steps CertError)
     (line : Line) (b : Bool)
-    → eqb k MOST_LINES ≡ b → words ≡ line_words n line → IsLineOf v n line → rest ≢ []
-    → k ≤ MOST_LINES
-    → (later ≡ Err TooManyLines → suc k ≤ MOST_LINES → AreTooMany v n (suc k) rest)
+    → eqb k (most_lines v) ≡ b → words ≡ line_words n line → IsLineOf v n line → rest ≢ []
+    → k ≤ most_lines v
+    → (later ≡ Err TooManyLines → suc k ≤ most_lines v → AreTooMany v n (suc k) rest)
     → cond b (Err TooManyLines) (with_lines (line ∷ []) later) ≡ Err TooManyLines
     → AreTooMany v n k (words ∷ rest)
 too_many_or v n k words rest later line true limit is good some few others e = record {
@@ -113,10 +112,10 @@ too_many_or v n k words rest later line true limit is good some few others e = r
   is = ap (λ w. w ∷ rest) is;
   more = some;
   good = All-cons (IsLineOf v n) line [] good (All-nil (IsLineOf v n));
-  long = let at = (Decides-eqb k MOST_LINES).0 limit in omega (arith, at);
+  long = let at = (Decides-eqb k (most_lines v)).0 limit in omega (arith, at);
 }
 too_many_or v n k words rest later line false limit is good some few others e =
-    let t = others (err_of_lines (line ∷ []) later TooManyLines e) (next_below k limit few) in
+    let t = others (err_of_lines (line ∷ []) later TooManyLines e) (next_below v k limit few) in
     record {
       front = line ∷ t.front;
       rest = t.rest;
@@ -128,18 +127,18 @@ too_many_or v n k words rest later line false limit is good some few others e =
 
 one_too_many : (v n k : ℕ) (words : Words) (rest : TextLines) (later : Result Steps CertError)
     (o : Option Statement)
-    → statement_named v n words ≡ o → rest ≢ [] → k ≤ MOST_LINES
-    → (later ≡ Err TooManyLines → suc k ≤ MOST_LINES → AreTooMany v n (suc k) rest)
-    → steps_after k o rest later ≡ Err TooManyLines → AreTooMany v n k (words ∷ rest)
+    → statement_named v n words ≡ o → rest ≢ [] → k ≤ most_lines v
+    → (later ≡ Err TooManyLines → suc k ≤ most_lines v → AreTooMany v n (suc k) rest)
+    → steps_after v k o rest later ≡ Err TooManyLines → AreTooMany v n k (words ∷ rest)
 one_too_many v n k words rest later None said some few others e = cc
 one_too_many v n k words rest later (Some (Derivation line)) said some few others e =
     let means = step_means v n words (Derivation line) said in
     too_many_or v n k words rest later line
-    (eqb k MOST_LINES) refl means.1 means.0 some few others e
+    (eqb k (most_lines v)) refl means.1 means.0 some few others e
 one_too_many v n k words rest later (Some (Claim kind i)) said some few others e =
     absurd (not_too_many (is_nothing rest) ([], (kind, i)) (k + 7) e)
 
-pub too_many_means : (v n k : ℕ) (lines : TextLines) → k ≤ MOST_LINES
+pub too_many_means : (v n k : ℕ) (lines : TextLines) → k ≤ most_lines v
     → steps_in v n k lines ≡ Err TooManyLines → AreTooMany v n k lines
 too_many_means v n k [] few e = cc
 too_many_means v n k (words ∷ []) few e = cc
@@ -196,13 +195,13 @@ one_bad : (v n k m : ℕ) (words : Words) (rest : TextLines) (later : Result Ste
     (o : Option Statement)
     → statement_named v n words ≡ o → rest ≢ []
     → (later ≡ Err (NotCert m) → IsBadStep v n (suc k) rest m)
-    → steps_after k o rest later ≡ Err (NotCert m) → IsBadStep v n k (words ∷ rest) m
+    → steps_after v k o rest later ≡ Err (NotCert m) → IsBadStep v n k (words ∷ rest) m
 one_bad v n k m words rest later None said some others e
     = bad_here v n k m (words ∷ rest) (λ z. cc) (line_of_err (k + 6) m e)
 one_bad v n k m words rest later (Some (Derivation line)) said some others e =
     let means = step_means v n words (Derivation line) said in
     let b = others
-    (err_of_lines (line ∷ []) later (NotCert m) (no_limit (eqb k MOST_LINES) (with_lines (line ∷ []) later) m e)) in
+    (err_of_lines (line ∷ []) later (NotCert m) (no_limit (eqb k (most_lines v)) (with_lines (line ∷ []) later) m e)) in
     record {
       s = (line ∷ b.s.0, b.s.1);
       j = suc b.j;
@@ -253,7 +252,7 @@ bad_after v n k zero m s rest size good few some long e =
 bad_after v n k (suc zero) m ([], (kind, i)) rest size good few some long e =
     let line = no_end (is_nothing rest) ([], (kind, i)) (k + 7) m
     (sym (steps_more v n k (kind_word kind ∷ decimal i ∷ []) rest some
-    ∙ ap (λ o. steps_after k o rest (steps_in v n (suc k) rest))
+    ∙ ap (λ o. steps_after v k o rest (steps_in v n (suc k) rest))
     (step_back v n (Claim kind i) size few)) ∙ e) in
     omega (arith, line)
 bad_after v n k (suc (suc j)) m ([], claim) rest size good few some long e
@@ -261,9 +260,9 @@ bad_after v n k (suc (suc j)) m ([], claim) rest size good few some long e
 bad_after v n k (suc j) m (line ∷ lines, claim) rest size good few some long e =
     let later = take j (step_lines n (lines, claim)) ++ rest in
     let shown = sym (steps_more v n k (line_words n line) later (later_some (take j (step_lines n (lines, claim))) rest some)
-    ∙ ap (λ o. steps_after k o later (steps_in v n (suc k) later))
+    ∙ ap (λ o. steps_after v k o later (steps_in v n (suc k) later))
     (step_back v n (Derivation line) size (good 0 line (omega arith)))) ∙ e in
     let after = bad_after v n (suc k) j m (lines, claim) rest size
     (All-tail (IsLineOf v n) line lines good) few some (omega (arith, long))
-    (err_of_lines (line ∷ []) (steps_in v n (suc k) later) (NotCert m) (no_limit (eqb k MOST_LINES) (with_lines (line ∷ []) (steps_in v n (suc k) later)) m shown)) in
+    (err_of_lines (line ∷ []) (steps_in v n (suc k) later) (NotCert m) (no_limit (eqb k (most_lines v)) (with_lines (line ∷ []) (steps_in v n (suc k) later)) m shown)) in
     omega (arith, after)

@@ -1,6 +1,6 @@
 -- Where the claimed line is a `move`, its cell is empty, and the player wins after his stone there.
-use Rattle.std.proofs.Common.{◌≡◌, ℕ, ◌+◌, ◌<◌, ◌==◌, ◌&&◌, ◌||◌, nat_lt, true, false, List, [], ◌∷◌}
-use Rattle.std.proofs.Common.{◌++◌, Option, Some, None, length, bit_or, refl, sym, ◌∙◌, ap, subst, zero}
+use Rattle.std.proofs.Common.{◌≡◌, ℕ, ◌<◌, ◌==◌, ◌&&◌, ◌||◌, nat_lt, true, false, List, [], ◌∷◌}
+use Rattle.std.proofs.Common.{◌++◌, Some, length, bit_or, refl, sym, ◌∙◌, ap, subst, zero}
 use Rattle.std.proofs.Common.{suc, inl, inr, arith}
 use Rattle.std.proofs.Common.{option_and_then}
 use Rattle.std.specs.List.{cons_option, list_all, slice_get}
@@ -32,14 +32,12 @@ use Rattle.win_cert.specs.declared.lines.Line.{Line}
 use Rattle.win_cert.specs.declared.lines.Line.TheVariants.{Move}
 use Rattle.win_cert.specs.declared.reasons.Reason.{Reason}
 use Rattle.win_cert.specs.declared.reasons.Reason.TheVariants.{BadReference, BadStone, NotEdges}
-use Rattle.win_cert.specs.declared.statements.Statement.{Statement}
 use Rattle.win_cert.specs.declared.statements.Statement.TheVariants.{Claim, Derivation}
-use Rattle.win_cert.specs.Reasons.{applies, reason_against}
+use Rattle.win_cert.specs.Reasons.{applies}
 use Rattle.win_cert.proofs.AcceptedLaw.{some_named}
 use Rattle.win_cert.proofs.CaseLines.{edges_good}
-use Rattle.win_cert.proofs.CutSteps.{with_none}
 use Rattle.win_cert.proofs.EdgeEntries.{IsGoodOfEdges}
-use Rattle.win_cert.proofs.GivenEntries.{at_left, claim_clear, gave_good, line_clear, small_board}
+use Rattle.win_cert.proofs.GivenEntries.{at_left, claim_clear, gave_good, line_clear}
 use Rattle.win_cert.proofs.GoodEntries.{IsGood}
 use Rattle.win_cert.proofs.LinksOn.{links_join}
 use Rattle.win_cert.proofs.NamedEntries.{Each, GaveGood, IsLineTaken, none_applies, taken}
@@ -81,7 +79,7 @@ claim_scope cert a b h e =
     let c = context_at cert (length cert.lines) in
     let s = Claim cert.claim cert.entry in
     let all : Each (IsLineTaken c s) (cons_option (entry_at c cert.entry) [])
-    = taken c s (gave_good cert (length cert.lines) b h) (none_applies c s (claim_clear cert h)) in
+    = taken c s (gave_good cert (length cert.lines) b h) (none_applies c s (claim_clear cert h)) refl refl in
     let one : Each (IsLineTaken c s) (a ∷ [])
     = subst (λ o. Each (IsLineTaken c s) (cons_option o [])) e all in
     one.0.scope_is
@@ -129,7 +127,7 @@ moved c k i g h =
     let a = w.0 in
     let e = elements_in c.base (with_cell c.scope k) in
     let all : Each (IsLineTaken c s) (a ∷ [])
-    = subst (λ es. Each (IsLineTaken c s) es) w.1 (taken c s g h) in
+    = subst (λ es. Each (IsLineTaken c s) es) w.1 (taken c s g h refl refl) in
     let edges : list_all (is_edge_entry c.base) (a ∷ []) ≡ true
     = subst (λ es. list_all (is_edge_entry c.base) es ≡ true) w.1
     (not-false (list_all (is_edge_entry c.base) (entries_at c (i ∷ []))) (h NotEdges)) in

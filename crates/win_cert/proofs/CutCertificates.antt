@@ -1,134 +1,89 @@
 -- The certificate of the lines of a cut shows the entry of the store, and has a line for each entry
--- on
--- which it rests.
-use Rattle.std.proofs.Common.{◌≡◌, ℕ, ◌+◌, ◌<◌, ◌≤◌, All, Option, None, ◌==◌, ◌&&◌, true, false}
-use Rattle.std.proofs.Common.{Bool, List, [], ◌∷◌, Some, get_or, length, map, if◌then◌else◌, refl}
-use Rattle.std.proofs.Common.{sym, ◌∙◌, ap, subst, inl, suc, arith}
+-- on which it rests.
+use Rattle.std.proofs.Common.{◌≡◌, ℕ, ◌<◌, ◌≤◌, All, ◌==◌, ◌&&◌, true, false, Bool, List, Some, get_or}
+use Rattle.std.proofs.Common.{length, map, sym, ◌∙◌, ap, subst, refl, inl, arith}
 use Rattle.std.specs.List.{slice_get}
-use Rattle.std.specs.Option.{option_flatten}
+use Rattle.std.proofs.Math.Seq.{take-length}
 use Rattle.std.proofs.lemmas.Bool.{and_from, eq-eqb}
+use Rattle.std.proofs.lemmas.List.{get_or_read}
 use Rattle.std.proofs.lemmas.Option.{slice_get_within}
 use Rattle.hex_board.specs.Elements.{PlayerBoard, edge_element}
-use Rattle.hex_board.specs.Positions.{Position, Within, stones_of}
+use Rattle.hex_board.specs.Positions.{Position}
 use Rattle.hex_cells.specs.declared.colours.Colour.{Colour}
-use Rattle.conn_store.specs.Entries.{IsBetween, IsValid}
-use Rattle.conn_store.specs.Stores.{IsSound, StoreData}
+use Rattle.conn_store.specs.Entries.{IsBetween}
+use Rattle.conn_store.specs.Stores.{StoreData}
 use Rattle.conn_store.specs.declared.entries.Entry.{Entry}
-use Rattle.win_cert.specs.Contexts.{after_lines}
-use Rattle.win_cert.specs.Cuts.{CertifiesEntry, HasLinesFor, IsEdgeEntryAt, entries_numbered}
-use Rattle.win_cert.specs.Cuts.{scoped}
-use Rattle.win_cert.specs.Derivations.{DerivesOnto, IsDerivation, given_there}
-use Rattle.win_cert.specs.Entries.{Context, ScopedEntry, elements_at, entry_at}
-use Rattle.win_cert.specs.Freer.{moved_element, moved_entry}
-use Rattle.win_cert.specs.Scopes.{player_board}
+use Rattle.conn_store.specs.declared.entries.TheConstants.{MOST_ENTRIES}
+use Rattle.win_cert.specs.Contexts.{AreClear, after_lines, first_context}
+use Rattle.win_cert.specs.Cuts.{CertifiesEntry, HasEdgeEntryAt, HasLinesFor, IsEdgeEntryAt}
+use Rattle.win_cert.specs.Cuts.{entries_numbered, scoped}
+use Rattle.win_cert.specs.Cutting.{AreLinesFor, AreMarks, given, is_marked, start_of}
+use Rattle.win_cert.specs.Entries.{Context, elements_at, entry_at}
 use Rattle.win_cert.specs.Statements.{is_edge_entry}
 use Rattle.win_cert.specs.Verdicts.{IsVerdict}
 use Rattle.win_cert.specs.declared.verdicts.Verdict.TheVariants.{Yes}
-use Rattle.win_cert.specs.Writable.{IsLineOf}
+use Rattle.win_cert.specs.Writable.{IsLineOf, most_lines}
 use Rattle.win_cert.specs.declared.certs.Cert.{Cert}
 use Rattle.win_cert.specs.declared.lines.Line.{Line}
 use Rattle.win_cert.specs.declared.certs.TheConstants.{FIRST_VERSION}
-use Rattle.win_cert.proofs.Appending.{base_after, length_after}
-use Rattle.win_cert.proofs.CutSteps.{unscoped_board}
 use Rattle.win_cert.proofs.Accepting.{accepted, first_of, read_all}
-use Rattle.win_cert.proofs.CutShown.{between_edges}
-use Rattle.win_cert.proofs.Moved.{freer_self, moved_self}
+use Rattle.win_cert.proofs.Appending.{base_after}
+use Rattle.win_cert.proofs.CutEnds.{between_edges}
+use Rattle.win_cert.proofs.CutSteps.{unscoped_board}
+use Rattle.win_cert.proofs.Supports.{marked_rest}
 
--- ---- the board
-
--- the certificate is one of the store's board, for its player, and its lines are those of entry n
-pub record IsCutOf (d : StoreData) (n : ℕ) (cert : Cert) : Type 0 where
+-- the certificate is one of the store's board, for its player, with the lines of the entries that
+-- are marked for entry n
+pub record IsCutOf (d : StoreData) (n : ℕ) (marks : List Bool) (cert : Cert) : Type 0 where
   pub board : cert.board ≡ d.elements.board
   pub player : cert.player ≡ d.elements.player
-  pub lines : DerivesOnto d (n ∷ []) [] cert.lines (cert.entry ∷ [])
-  pub sound : IsSound d
-  pub own : Within d.elements.board.size (stones_of d.elements.board d.elements.player)
+  pub known : AreMarks d.entries n marks
+  pub renamed : List ℕ
+  pub lines : AreLinesFor d marks (length d.entries) cert.lines renamed
+  pub entry : cert.entry ≡ get_or renamed n 0
+  pub few : length d.entries ≤ MOST_ENTRIES
 
-one_number : (numbers : List ℕ) (i : ℕ) → length numbers ≡ 1 → i ≡ get_or numbers 0 i
-    → numbers ≡ i ∷ []
-one_number [] i l e = absurd (omega (arith, l))
-one_number (j ∷ []) i l e = ap (λ v. v ∷ []) (sym e)
-one_number (j ∷ k ∷ numbers) i l e = absurd (omega (arith, l))
-
--- where no line stood before, and one number is answered
-pub first_lines : {d : StoreData} {n i : ℕ} {old new : List Line} {numbers : List ℕ} → old ≡ []
-    → i ≡ get_or numbers 0 i → DerivesOnto d (n ∷ []) old new numbers
-    → DerivesOnto d (n ∷ []) [] new (i ∷ [])
-first_lines {d = d} {n = n} {i = i} {old = old} {new = new} {numbers = numbers} h e w =
-    subst (λ v. DerivesOnto d (n ∷ []) v new (i ∷ [])) h
-    (subst (λ v. DerivesOnto d (n ∷ []) old new v) (one_number numbers i w.count e) w)
-
-pub cut_of : {lines : List Line} (d r : StoreData) (n : ℕ) (cert : Cert) → d ≡ r
+-- from what was asked for and answered on the way
+pub cut_of : {lines : List Line} {entries : List Entry} {m : List Bool} (d r : StoreData) (n : ℕ)
+    (marks : List Bool) (renamed : List ℕ) (cert : Cert) → d ≡ r → HasEdgeEntryAt r n
     → cert.board ≡ d.elements.board → cert.player ≡ d.elements.player → cert.lines ≡ lines
-    → DerivesOnto d (n ∷ []) [] lines (cert.entry ∷ []) → IsSound d
-    → Within d.elements.board.size (stones_of d.elements.board d.elements.player)
-    → IsCutOf r n cert
-cut_of d r n cert h b p l w s on
-    = subst (λ v. IsCutOf v n cert) h
-    (record { board = b; player = p; lines = subst (λ v. DerivesOnto d (n ∷ []) [] v (cert.entry ∷ [])) (sym l) w; sound = s; own = on })
+    → entries ≡ d.entries → length entries ≤ MOST_ENTRIES → AreMarks entries n m → marks ≡ m
+    → AreLinesFor d marks (length d.entries) lines renamed → cert.entry ≡ get_or renamed n cert.entry
+    → IsCutOf r n marks cert
+cut_of {m = m} d r n marks renamed cert h at b p l es few known same w e =
+    let inside : n < length d.entries
+    = slice_get_within d.entries n at.0 (ap (λ (v : StoreData). slice_get v.entries n) h ∙ at.1.0) in
+    let number : length renamed ≡ length d.entries = w.number in
+    subst (λ v. IsCutOf v n marks cert) h
+    (record {
+      board = b;
+      player = p;
+      known = subst (AreMarks d.entries n) (sym same) (subst (λ v. AreMarks v n m) es known);
+      renamed = renamed;
+      lines = subst (λ v. AreLinesFor d marks (length d.entries) v renamed) (sym l) w;
+      entry = get_or_read renamed n cert.entry (omega arith) e 0;
+      few = subst (λ v. length v ≤ MOST_ENTRIES) es few;
+    })
 
-same_board : (cert : Cert) (e : PlayerBoard) → cert.board ≡ e.board → cert.player ≡ e.player
-    → player_board cert ≡ e
-same_board cert e h k = ap (λ (p : Position). record { board = p; player = cert.player }) h
-    ∙ ap (λ (q : Colour). record { board = e.board; player = q }) k
+first_same : (d : StoreData) (n : ℕ) (marks : List Bool) (cert : Cert) → IsCutOf d n marks cert
+    → first_of cert ≡ start_of d
+first_same d n marks cert w = ap (λ (p : Position). first_context p cert.player) w.board
+    ∙ ap (λ (q : Colour). first_context d.elements.board q) w.player
 
-first_elements : (d : StoreData) (n : ℕ) (cert : Cert) → IsCutOf d n cert
+first_elements : (d : StoreData) (n : ℕ) (marks : List Bool) (cert : Cert) → IsCutOf d n marks cert
     → elements_at (first_of cert) ≡ d.elements
-first_elements d n cert w = unscoped_board (player_board cert)
-    ∙ same_board cert d.elements w.board w.player
+first_elements d n marks cert w
+    = ap elements_at (first_same d n marks cert w) ∙ unscoped_board d.elements
 
-derived : (d : StoreData) (n : ℕ) (cert : Cert) (w : IsCutOf d n cert)
-    → IsDerivation d (n ∷ []) w.lines.own (first_of cert) cert.lines (cert.entry ∷ [])
-derived d n cert w
-    = subst (λ l. IsDerivation d (n ∷ []) w.lines.own (first_of cert) l (cert.entry ∷ []))
-    (sym w.lines.added)
-    (w.lines.derives (first_of cert) refl (freer_self d.elements (elements_at (first_of cert)) (first_elements d n cert w)))
-
--- ---- the entries have their own elements
-
-entry_same : (a : Entry) (x y : ℕ) → x ≡ a.x → y ≡ a.y
-    → scoped 0 (record { kind = a.kind; x = x; y = y; carrier = a.carrier; cause = a.cause }) ≡ scoped 0 a
-entry_same a x y h k
-    = ap (λ v. scoped 0 (record { kind = a.kind; x = v; y = y; carrier = a.carrier; cause = a.cause })) h
-    ∙ ap (λ v. scoped 0 (record { kind = a.kind; x = a.x; y = v; carrier = a.carrier; cause = a.cause })) k
-
-given_same : (d : StoreData) (n : ℕ) (cert : Cert) → IsCutOf d n cert → (i : ℕ) (a : Entry)
-    → slice_get d.entries i ≡ Some a → given_there d (first_of cert) a ≡ Some (scoped 0 a)
-given_same d n cert w i a at =
-    let v : IsValid d.elements a = w.sound.valid i a at in
-    let order : a.x < a.y = v.order in
-    ap (λ e. Some (scoped 0 (moved_entry d.elements e a))) (first_elements d n cert w)
-    ∙ ap (λ o. Some o)
-    (entry_same a (moved_element d.elements d.elements a.x) (moved_element d.elements d.elements a.y)
-    (moved_self d.elements a.x w.own (omega (arith, order, v.elements)))
-    (moved_self d.elements a.y w.own v.elements))
-
-map_front : {Y : Type 0} (f g : Entry → Y) (b : Bool) (a : Entry) (xs : List Entry) → f a ≡ g a
-    → map f xs ≡ map g xs → map f (if b then a ∷ xs else xs) ≡ map g (if b then a ∷ xs else xs)
-map_front f g true a xs h k = ap (λ v. v ∷ map f xs) h ∙ ap (λ v. g a ∷ v) k
-map_front f g false a xs h k = k
-
-map_same : {Y : Type 0} (f g : Entry → Y) (set : ℕ → Bool) (entries : List Entry)
-    → ((i : ℕ) (a : Entry) → slice_get entries i ≡ Some a → f a ≡ g a)
-    → map f (entries_numbered set entries) ≡ map g (entries_numbered set entries)
-map_same f g set [] h = refl
-map_same f g set (a ∷ entries) h
-    = map_front f g (set 0) a _ (h 0 a refl)
-    (map_same f g (λ i. set (suc i)) entries (λ i b q. h (suc i) b q))
-
--- ---- the certificate
-
-pub lines_for : (d : StoreData) (n : ℕ) (cert : Cert) → IsCutOf d n cert → HasLinesFor d n cert
-lines_for d n cert w =
-    let (set, support, is) = w.lines.rests in (
-      w.lines.own,
-      w.lines.rests,
-      ap (λ (c : Context). c.earlier) (read_all cert) ∙ (derived d n cert w).gives
-          ∙ ap (map (given_there d (first_of cert))) is
-          ∙ map_same (given_there d (first_of cert)) (λ a. Some (scoped 0 a)) set d.entries
-          (given_same d n cert w)
-          ∙ ap (map (λ a. Some (scoped 0 a))) (sym is),
-    )
+pub has_lines : (d : StoreData) (n : ℕ) (marks : List Bool) (cert : Cert) → IsCutOf d n marks cert
+    → HasLinesFor d n cert
+has_lines d n marks cert w = (
+  entries_numbered (is_marked marks) d.entries,
+  marked_rest d n marks w.known,
+  ap (λ (c : Context). c.earlier) (read_all cert)
+      ∙ ap (λ c. (after_lines c cert.lines).earlier) (first_same d n marks cert w) ∙ w.lines.gives
+      ∙ ap (λ es. map given (entries_numbered (is_marked marks) es)) (take-length d.entries),
+)
 
 edges_of : (e : PlayerBoard) (a : Entry) → IsBetween a (edge_element e false) (edge_element e true)
     → (a.x == edge_element e false && a.y == edge_element e true) ≡ true
@@ -136,55 +91,41 @@ edges_of e a h = let w = between_edges e a h in
     and_from (a.x == edge_element e false) (a.y == edge_element e true)
     (eq-eqb a.x (edge_element e false) w.0) (eq-eqb a.y (edge_element e true) w.1)
 
-claimed : (d : StoreData) (n : ℕ) (a : Entry) (cert : Cert) → IsCutOf d n cert
-    → slice_get d.entries n ≡ Some a
+claimed : (d : StoreData) (n : ℕ) (marks : List Bool) (a : Entry) (cert : Cert)
+    → IsCutOf d n marks cert → slice_get d.entries n ≡ Some a
     → entry_at (after_lines (first_of cert) cert.lines) cert.entry ≡ Some (scoped 0 a)
-claimed d n a cert w at = (derived d n cert w).answers 0 n cert.entry a refl refl at
-    ∙ given_same d n cert w n a at
+claimed d n marks a cert w at =
+    ap (λ c. entry_at (after_lines c cert.lines) cert.entry) (first_same d n marks cert w)
+    ∙ ap (entry_at (after_lines (start_of d) cert.lines)) w.entry
+    ∙ w.lines.places n a (slice_get_within d.entries n a at) w.known.asked at
 
--- the number of an entry that was given is that of a line
-given_within : (c : Context) (i : ℕ) (a : ScopedEntry) → entry_at c i ≡ Some a
-    → i < length c.earlier
-given_within c i a h = some_within (slice_get c.earlier i) refl h
-  where
-    some_within : (o : Option (Option ScopedEntry)) → slice_get c.earlier i ≡ o
-        → option_flatten o ≡ Some a → i < length c.earlier
-    some_within None e k = absurd (cc)
-    some_within (Some x) e k = slice_get_within c.earlier i x e
-
-entry_small : (cert : Cert) (a : ScopedEntry) → length cert.lines ≤ 75030
-    → entry_at (after_lines (first_of cert) cert.lines) cert.entry ≡ Some a → cert.entry ≤ 999999
-entry_small cert a l h =
-    let m : cert.entry < length (after_lines (first_of cert) cert.lines).earlier
-    = given_within (after_lines (first_of cert) cert.lines) cert.entry a h in
-    let n : length (after_lines (first_of cert) cert.lines).earlier ≡ 0 + length cert.lines
-    = length_after (first_of cert) cert.lines in
-    omega arith
-
-pub certified : (d : StoreData) (n : ℕ) (a : Entry) (cert : Cert) → IsCutOf d n cert
-    → IsEdgeEntryAt d n a → cert.version ≡ FIRST_VERSION → cert.claim ≡ a.kind
-    → CertifiesEntry d a cert
-certified d n a cert w h v k =
-    let few : length cert.lines ≤ 75030
-    = subst (λ l. length l ≤ 75030) (sym w.lines.added) w.lines.few in
+pub certified : (d : StoreData) (n : ℕ) (marks : List Bool) (a : Entry) (cert : Cert)
+    → IsCutOf d n marks cert → IsEdgeEntryAt d n a → cert.version ≡ FIRST_VERSION
+    → cert.claim ≡ a.kind → CertifiesEntry d a cert
+certified d n marks a cert w h v k =
+    let most : length d.entries ≤ 75030 = w.few in
+    let number : length cert.lines ≤ length d.entries = w.lines.few in
+    let small : get_or w.renamed n 0 ≤ length cert.lines
+    = w.lines.small n (slice_get_within d.entries n a h.0) in
+    let named : cert.entry ≡ get_or w.renamed n 0 = w.entry in
     let edges : is_edge_entry (after_lines (first_of cert) cert.lines).base (scoped 0 a) ≡ true
     = ap (λ b. is_edge_entry b (scoped 0 a)) (base_after (first_of cert) cert.lines)
     ∙ ap (λ e. a.x == edge_element e false && a.y == edge_element e true)
-    (first_elements d n cert w) ∙ edges_of d.elements a h.1 in
-    let at = claimed d n a cert w h.0 in
+    (first_elements d n marks cert w) ∙ edges_of d.elements a h.1 in
+    let clear = subst (λ c. AreClear c cert.lines) (sym (first_same d n marks cert w)) w.lines.clear in
     record {
       version = v;
       board = w.board;
       player = w.player;
       verdict = subst (λ z. IsVerdict cert (Yes z a.carrier)) k
-          (accepted cert a.carrier (derived d n cert w).clear (record { entry = scoped 0 a; at = at; kind_is = sym k; scope_is = refl; edges = edges; carrier_is = refl }));
+          (accepted cert a.carrier clear (record { entry = scoped 0 a; at = claimed d n marks a cert w h.0; kind_is = sym k; scope_is = refl; edges = edges; carrier_is = refl }));
       writable = (
         record {
           version = inl v;
           lines = subst (λ z. All (IsLineOf z cert.board.size) cert.lines) (sym v)
-              (subst (λ (p : Position). All (IsLineOf FIRST_VERSION p.size) cert.lines) (sym w.board) (subst (λ l. All (IsLineOf FIRST_VERSION d.elements.board.size) l) (sym w.lines.added) w.lines.form));
-          entry = entry_small cert (scoped 0 a) few at;
+              (subst (λ (p : Position). All (IsLineOf FIRST_VERSION p.size) cert.lines) (sym w.board) w.lines.form);
+          entry = omega arith;
         },
-        omega arith,
+        subst (λ z. length cert.lines ≤ most_lines z) (sym v) (omega arith),
       );
     }

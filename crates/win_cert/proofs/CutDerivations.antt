@@ -1,6 +1,6 @@
 -- The premises of an entry are earlier ones.
 use Rattle.std.proofs.Common.{◌≡◌, ℕ, ◌+◌, ◌<◌, ◌≤◌, ◌==◌, true, false, Bool, List, [], ◌∷◌, ◌++◌}
-use Rattle.std.proofs.Common.{Some, All, length, take, if◌then◌else◌, refl, ap, subst, inl, inr}
+use Rattle.std.proofs.Common.{Some, All, length, take, if◌then◌else◌, refl, subst, inl, inr}
 use Rattle.std.proofs.Common.{◌⊎◌, zero, suc, arith}
 use Rattle.std.specs.List.{slice_get}
 use Rattle.std.proofs.lemmas.List.Elements.{All-cons, All-head, All-nil}
@@ -87,8 +87,3 @@ pub some_at : {X : Type 0} (xs : List X) (k : ℕ) → k < length xs
 some_at [] k l = absurd (omega arith)
 some_at (x ∷ xs) zero l = (x, refl)
 some_at (x ∷ xs) (suc k) l = some_at xs k (omega arith)
-
-pub all_at : {X : Type 0} (P : X → Type 0) (xs : List X)
-    → ((i : ℕ) (x : X) → slice_get xs i ≡ Some x → P x) → All P xs
-all_at P [] h = All-nil P
-all_at P (x ∷ xs) h = All-cons P x xs (h 0 x refl) (all_at P xs (λ i y q. h (suc i) y q))

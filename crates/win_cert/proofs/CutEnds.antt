@@ -1,15 +1,17 @@
--- The end by which a line names an element.
+-- The end by which a line names an element, and the elements of the player's edges.
 use Rattle.std.proofs.Common.{◌≡◌, ℕ, ◌*◌, ◌<◌, nat_lt, ◌&&◌, not, true, false, Option, Some, None}
-use Rattle.std.proofs.Common.{sym, ◌∙◌, subst}
+use Rattle.std.proofs.Common.{min, max, sym, ◌∙◌, subst, arith}
 use Rattle.std.specs.Option.{MatchOption}
 use Rattle.std.proofs.lemmas.Bool.{and_parts, false_from_ne_true, ltb-true}
 use Rattle.hex_cells.specs.Sets.{has}
 use Rattle.hex_cells.specs.Colours.{other_of}
-use Rattle.hex_board.specs.Elements.{PlayerBoard, HasCell}
+use Rattle.hex_board.specs.Elements.{PlayerBoard, HasCell, edge_element}
 use Rattle.hex_board.specs.Positions.{Position, Within, stones_of}
 use Rattle.hex_cells.specs.declared.colours.Colour.{Colour}
 use Rattle.hex_board.proofs.Parts.{case_of, is_free, is_first, is_second, is_group, is_other}
 use Rattle.hex_board.proofs.Parts.{linked_last, none_other, tied_stone, none_some}
+use Rattle.conn_store.specs.Entries.{IsBetween}
+use Rattle.conn_store.specs.declared.entries.Entry.{Entry}
 use Rattle.win_cert.specs.Cutting.{AreStonesOn, IsEndFor}
 use Rattle.win_cert.specs.declared.lines.End.TheVariants.{At}
 
@@ -49,3 +51,12 @@ pub stones_within : (p : Position) (e : PlayerBoard) (c : Colour) (s : ℕ) → 
 stones_within p e c s h k q on =
     subst (λ (v : Position). Within v.size (stones_of v e.player)) h
     (subst (λ (v : Colour). Within p.size (stones_of p v)) k (subst (Within p.size) q on))
+
+-- the entry of the edges
+pub between_edges : (e : PlayerBoard) (a : Entry)
+    → IsBetween a (edge_element e false) (edge_element e true) → (a.x ≡ edge_element e false)
+    × (a.y ≡ edge_element e true)
+between_edges e a h = both a.x a.y (edge_element e true) h.0 h.1
+  where
+    both : (x y v : ℕ) → x ≡ min 0 v → y ≡ max 0 v → (x ≡ 0) × (y ≡ v)
+    both x y v p q = (omega arith, omega arith)

@@ -1,4 +1,4 @@
--- Marks of the entries on which entries rest.
+-- Marks of the entries on which an entry rests.
 use Rattle.std.proofs.Common.{◌≡◌, ℕ, ◌+◌, ◌<◌, ◌≤◌, true, false, Bool, List, [], ◌∷◌, ◌++◌, Some}
 use Rattle.std.proofs.Common.{All, length, get_or, replicate, set, take, refl, sym, ◌∙◌, ap, subst}
 use Rattle.std.proofs.Common.{inl, inr, zero, suc, arith}
@@ -38,10 +38,6 @@ All-last P (x ∷ xs) y h = All-last P xs y (All-tail P x (xs ++ y ∷ []) h)
 
 apart_from : (j b k : ℕ) → j < b → b ≤ k → k ≡ j → ⊥
 apart_from j b k l n q = absurd (omega arith)
-
-pub none_marked : (m : List Bool) → IsMarkedBy m [] m
-none_marked m
-    = record { number = refl; kept = λ i h. h; more = All-nil (λ i. is_marked m i ≡ true); least = λ s h f. f; rest = λ b i h p. refl }
 
 -- one entry more is marked
 pub one_marked : (m n : List Bool) (numbers : List ℕ) (q : ℕ) → q < length m

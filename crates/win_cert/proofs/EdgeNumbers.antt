@@ -15,10 +15,6 @@ use Rattle.hsearch.proofs.Steps.{held_has}
 use Rattle.win_cert.specs.Cuts.{AreEdgeNumbers, IsEdgeEntryAt}
 
 -- where the player is not joined his edges are in elements 0 and 1
-pub edge_order : (e : PlayerBoard) → are_joined e ≡ false
-    → edge_element e false < edge_element e true
-edge_order e j = let h : edge_element e true ≡ 1 = high_apart (are_joined e) j in omega arith
-
 edge_pair : (e : PlayerBoard) (a : Entry) → are_joined e ≡ false
     → IsBetween a (edge_element e false) (edge_element e true) → (a.x ≡ 0) × (a.y ≡ 1)
 edge_pair e a j h = subst (λ v. IsBetween a 0 v) (high_apart (are_joined e) j) h

@@ -17,7 +17,7 @@ use Rattle.win_cert.specs.Named.{after_word, alone, set_named, first_number}
 use Rattle.win_cert.specs.Texts.{colour_word, vertices_of}
 use Rattle.win_cert.specs.Writable.{IsVersion}
 use Rattle.win_cert.specs.declared.certs.TheConstants.{FIRST_VERSION, LATEST_VERSION}
-use Rattle.win_cert.specs.declared.certs.TheConstants.{SECOND_VERSION}
+use Rattle.win_cert.specs.declared.certs.TheConstants.{SECOND_VERSION, THIRD_VERSION}
 use Rattle.win_cert.specs.declared.heads.Head.{Head}
 use Rattle.win_cert.specs.declared.refusals.CertError.{CertError}
 use Rattle.win_cert.proofs.CellLists.{apart_of}
@@ -164,18 +164,25 @@ pub record IsHead (head : Head) : Type 0 where
   pub version : IsVersion head.version
   pub board : IsPosition head.board.size head.board.black head.board.white
 
-second_or_third : (v : ℕ) → FIRST_VERSION ≤ v → v ≤ LATEST_VERSION → v ≢ FIRST_VERSION
-    → (v ≡ SECOND_VERSION) ⊎ (v ≡ LATEST_VERSION)
-second_or_third v low high more = elim (cases_eq v SECOND_VERSION) [
+third_or_latest : (v : ℕ) → FIRST_VERSION ≤ v → v ≤ LATEST_VERSION → v ≢ FIRST_VERSION
+    → v ≢ SECOND_VERSION → (v ≡ THIRD_VERSION) ⊎ (v ≡ LATEST_VERSION)
+third_or_latest v low high more than = elim (cases_eq v THIRD_VERSION) [
   | inl same ↦ inl same
-  | inr other ↦ inr (omega (arith, low, high, more, other))
+  | inr other ↦ inr (omega (arith, low, high, more, than, other))
+]
+
+later_version : (v : ℕ) → FIRST_VERSION ≤ v → v ≤ LATEST_VERSION → v ≢ FIRST_VERSION
+    → (v ≡ SECOND_VERSION) ⊎ ((v ≡ THIRD_VERSION) ⊎ (v ≡ LATEST_VERSION))
+later_version v low high more = elim (cases_eq v SECOND_VERSION) [
+  | inl same ↦ inl same
+  | inr other ↦ inr (third_or_latest v low high more other)
 ]
 
 -- between the first and the latest each number is a version
 pub is_version : (v : ℕ) → FIRST_VERSION ≤ v → v ≤ LATEST_VERSION → IsVersion v
 is_version v low high = elim (cases_eq v FIRST_VERSION) [
   | inl same ↦ inl same
-  | inr other ↦ inr (second_or_third v low high other)
+  | inr other ↦ inr (later_version v low high other)
 ]
 
 -- a head that is read is good, and the lines are its own

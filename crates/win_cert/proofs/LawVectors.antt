@@ -1,5 +1,5 @@
--- Two certificates of a board with one cell, one with an empty cell as a middle and one with a
--- scope: they are accepted, so by the law their player wins.
+-- Three certificates of a board with one cell, one with an empty cell as a middle, one with a scope
+-- and one with a `lift`, which joins the player: they are accepted, so by the law their player wins.
 use Rattle.std.proofs.Common.{◌≡◌, ℕ, ◌+◌, ◌<◌, ◌≤◌, [], ◌∷◌, Option, None, length, map}
 use Rattle.std.proofs.Common.{option_and_then, replicate, refl, sym, ◌∙◌, ap, subst, zero, suc, inl}
 use Rattle.std.proofs.Common.{inr, arith}
@@ -20,7 +20,7 @@ use Rattle.win_cert.specs.Entries.{context_at}
 use Rattle.win_cert.specs.Writable.{HasBoard}
 use Rattle.win_cert.specs.declared.certs.Cert.{Cert}
 use Rattle.win_cert.specs.declared.lines.End.TheVariants.{At, First, Second}
-use Rattle.win_cert.specs.declared.lines.Line.TheVariants.{Adj, Key, Put, Done, Move}
+use Rattle.win_cert.specs.declared.lines.Line.TheVariants.{Adj, Key, Put, Done, Lift, Move}
 use Rattle.win_cert.proofs.AcceptedLaw.{accepted_wins}
 
 abbrev by_key : Cert
@@ -41,6 +41,16 @@ by_scope = record {
   lines = Put 1 ∷ Done ∷ Put 0 ∷ Move 0 1 ∷ [];
   claim = Semi;
   entry = 3;
+}
+
+abbrev by_lift : Cert
+by_lift = record {
+  version = 4;
+  board = empty_board 1;
+  player = Black;
+  lines = Adj (At 0) First ∷ Put 1 ∷ Lift 0 ∷ Put 0 ∷ Move 0 2 ∷ [];
+  claim = Semi;
+  entry = 4;
 }
 
 -- ---- from the reasons of all statements
@@ -64,7 +74,7 @@ all_good cert n l h k = elim (cases_lt k n) [
       (slice_get_past (statements_of cert) k (omega arith))
 ]
 
--- ---- the two
+-- ---- the three
 
 by_key_judged : map (reason_at by_key) (range_with_len 0 4) ≡ replicate 4 None
 unfolding has is_joined leads_in reason_against
@@ -73,6 +83,10 @@ by_key_judged = refl
 by_scope_judged : map (reason_at by_scope) (range_with_len 0 5) ≡ replicate 5 None
 unfolding has is_joined leads_in reason_against
 by_scope_judged = refl
+
+by_lift_judged : map (reason_at by_lift) (range_with_len 0 6) ≡ replicate 6 None
+unfolding has is_joined leads_in reason_against
+by_lift_judged = refl
 
 one_cell : (cert : Cert) → cert.board ≡ empty_board 1 → HasBoard cert
 one_cell cert e = subst (λ p. IsPosition p.size p.black p.white) (sym e) (record {
@@ -90,3 +104,7 @@ key_wins = accepted_wins by_key (one_cell by_key refl)
 scope_wins : Wins by_scope.player by_scope.board by_scope.player
 scope_wins = accepted_wins by_scope (one_cell by_scope refl)
     (all_good by_scope 5 (omega arith) by_scope_judged)
+
+lift_wins : Wins by_lift.player by_lift.board by_lift.player
+lift_wins = accepted_wins by_lift (one_cell by_lift refl)
+    (all_good by_lift 6 (omega arith) by_lift_judged)

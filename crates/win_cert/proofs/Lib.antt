@@ -6,7 +6,8 @@
 --    GoodEntries: an entry is kept with three facts: it is true, its carrier has empty cells of its
 --    scope's board alone, and none of its elements' cells.
 -- 3. A form of line each: NamedEntries, Middles, ChainLines (`and`, `key`), EdgeEntries, CaseLines
---    (`or`, `cases`), and LineTruth for all.
+--    (`or`, `cases`), and LineTruth for all. `lift`: MoreStones (what a player is sure of, with more
+--    stones, on cells of the carrier too), LiftedLinks (elements that hold others), LiftLines.
 -- 4. proofs/GivenEntries and AcceptedLaw: all lines, and the claim.
 -- 5. That a line has no reason against it exactly if its rule of connection applies
 --    (src/rule_lines.rt, specs/RuleLines.antt): proofs/RuleLines, by CutSteps one way and
@@ -33,24 +34,18 @@
 --
 -- How to read the proof of `win_cert::cut`: what is cut from a report is accepted.
 -- 1. What is claimed: src/cutting.rt; specs/Cuts.antt (the certificate, and the entries on which an
---    entry rests), Contexts.antt (lines that are read in turn), Freer.antt and Derivations.antt
---    (lines after others, in any scope).
+--    entry rests), Contexts.antt (lines that are read in turn).
 -- 2. specs/Cutting.antt, which only private clauses cite: marked entries, and the line for each.
 -- 3. src/marking.rt with proofs/CutDerivations (premises are earlier entries), CutMarks and
---    Supports: the marked entries are those on which the entries that are asked for rest.
+--    Supports: the marked entries are those on which the entry rests.
 -- 4. One line: proofs/CutEnds (the end that names an element), CutChains, CutSteps (a line gives
---    the store's entry in its scope, and there is no reason against it), CutLines. On a board with
---    fewer stones of the other player: Moved (elements rise in the same order there) and MovedRules
---    (what follows by a rule follows there).
--- 5. All lines: Appending (lines after lines), CutsIn, which `lines_onto` cites. `cut` is
---    `lines_onto` of one entry where no line stands: Stepping (a certificate's lines, read in
---    turn), Accepting (clear lines with the claim's entry are accepted), CutCertificates.
+--    the store's entry in its scope, and there is no reason against it), CutLines.
+-- 5. All lines: Appending (lines after lines), CutWhole. The certificate: Stepping (its lines, read
+--    in turn), Accepting (clear lines with the claim's entry are accepted), CutCertificates.
 -- 6. For whoever makes certificates of his own, what lines show of a position that is reached from
 --    the board: specs/Showing.antt, Reaching (positions and scopes), ScopeLines (`put`, `done`,
 --    `move` and `cases`: no reason against them, and what they give), Shown (two lines each: a
---    `put` with one of the other three), CutShown (a `put` with the lines of a cut), ScopedWins
---    (such an entry, if it is true, tells who wins), VersionLines (lines of version 2 need none
---    later).
+--    `put` with one of the other three), VersionLines (lines of version 2 need none later).
 
 -- Laws for the layers above.
 pub mod GivenEntries
@@ -67,9 +62,7 @@ pub mod Appending
 pub mod Reaching
 pub mod ScopeLines
 pub mod Shown
-pub mod ScopedWins
 pub mod Accepting
-pub mod CutShown
 pub mod VersionLines
 -- Steps of this crate's own proofs.
 mod Vectors
@@ -84,6 +77,9 @@ mod NamedEntries
 mod Middles
 mod ChainLines
 mod CaseLines
+mod MoreStones
+mod LiftedLinks
+mod LiftLines
 mod LineTruth
 mod LawVectors
 mod Options
@@ -113,9 +109,7 @@ mod SameVerdict
 mod CutLines
 mod CutMarks
 mod Supports
-mod Moved
-mod MovedRules
-mod CutsIn
+mod CutWhole
 mod RuleLines
 mod ManyLines
 mod CutCertificates

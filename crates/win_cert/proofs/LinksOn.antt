@@ -20,13 +20,13 @@ use Rattle.win_cert.proofs.StonesOn.{own_within}
 
 -- ---- to the board without stones off it, and back
 
-cell_on : (e : PlayerBoard) (x k : ℕ) → HasCell e x k → HasCell (on_board e) x k
+pub cell_on : (e : PlayerBoard) (x k : ℕ) → HasCell e x k → HasCell (on_board e) x k
 cell_on e x k h = sym (element_same e k) ∙ h
 
-cell_off : (e : PlayerBoard) (x k : ℕ) → HasCell (on_board e) x k → HasCell e x k
+pub cell_off : (e : PlayerBoard) (x k : ℕ) → HasCell (on_board e) x k → HasCell e x k
 cell_off e x k h = element_same e k ∙ h
 
-member_on : (e : PlayerBoard) (x : ℕ) (p : Place) → IsMember e x p → IsMember (on_board e) x p
+pub member_on : (e : PlayerBoard) (x : ℕ) (p : Place) → IsMember e x p → IsMember (on_board e) x p
 member_on e x (at_cell k) h = cell_on e x k h
 member_on e x (at_edge second) h = sym (edge_same e second) ∙ h
 
@@ -48,7 +48,7 @@ pass_off e x y s (at_cell k) (inr (inl h)) = inr (inl (cell_off e x k h))
 pass_off e x y s (at_cell k) (inr (inr h)) = inr (inr (cell_off e y k h))
 pass_off e x y s (at_edge second) h = tt
 
-link_on : (e : PlayerBoard) (x y s : ℕ) → StonesLink e x y s → StonesLink (on_board e) x y s
+pub link_on : (e : PlayerBoard) (x y s : ℕ) → StonesLink e x y s → StonesLink (on_board e) x y s
 link_on e x y s l = (
   l.0,
   l.1,

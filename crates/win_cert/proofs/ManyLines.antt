@@ -1,6 +1,6 @@
 -- An `or` of any number of entries has no reason against it exactly where the rule of OR applies to
 -- the entries that it names.
-use Rattle.std.proofs.Common.{◌≡◌, ℕ, ◌<◌, ◌==◌, ◌&&◌, ◌||◌, not, min, max, true, false, List, []}
+use Rattle.std.proofs.Common.{◌≡◌, ℕ, ◌<◌, ◌==◌, ◌&&◌, ◌||◌, not, min, max, true, List, []}
 use Rattle.std.proofs.Common.{◌∷◌, Some, map, refl, sym, ◌∙◌, ap, arith}
 use Rattle.std.specs.List.{All, cons_option, list_all}
 use Rattle.std.proofs.lemmas.Bool.{and_from, and_parts, eq-eqb, ne_eqb, not-false}

@@ -8,7 +8,7 @@ use Rattle.std.proofs.lemmas.Bool.{not-false, not-true}
 use Rattle.hex_board.specs.Elements.{PlayerBoard}
 use Rattle.conn_store.specs.Stores.{same_kind}
 use Rattle.win_cert.specs.Entries.{Context, ScopedEntry, entry_at}
-use Rattle.win_cert.specs.Reasons.{applies, order, reason_against}
+use Rattle.win_cert.specs.Reasons.{applies, is_bad_reference, is_wrong_scope, order, reason_against}
 use Rattle.win_cert.specs.declared.reasons.Reason.{Reason}
 use Rattle.win_cert.specs.declared.reasons.Reason.TheVariants.{BadReference, BadStone, CarriersMeet}
 use Rattle.win_cert.specs.declared.reasons.Reason.TheVariants.{CommonCell, EndInCarrier, EndsDiffer}
@@ -122,11 +122,13 @@ named_all c s (i ∷ numbers) h =
     named_one c s i (entry_at c i) (filter_map (entry_at c) numbers) refl t.0
     (named_all c s numbers t.1)
 
--- the entries that a statement names, where no reason is against it
+-- the entries that a statement names, where no reason is against it: of each statement but `lift`
 pub taken : (c : Context) (s : Statement) → GaveGood c → ((r : Reason) → applies c s r ≡ false)
+    → is_bad_reference c s ≡ not (list_all (λ i. may_take s (entry_at c i)) (numbers_in s))
+    → is_wrong_scope c s ≡ not (list_all (λ a. a.scope == scope_taken c s) (entries_named c s))
     → Each (IsLineTaken c s) (entries_named c s)
-taken c s g h = each_both (IsNamed c s) (λ a. (a.scope == scope_taken c s) ≡ true) (IsLineTaken c s)
+taken c s g h p q = each_both (IsNamed c s) (λ a. (a.scope == scope_taken c s) ≡ true) (IsLineTaken c s)
     (entries_named c s)
     (λ a p q. record { named = p; scope_is = eqb-true a.scope (scope_taken c s) q; good = g p.given.0 a p.given.1 })
-    (named_all c s (numbers_in s) (not-false (list_all (λ i. may_take s (entry_at c i)) (numbers_in s)) (h BadReference)))
-    (each_passes (λ a. a.scope == scope_taken c s) (entries_named c s) (not-false (list_all (λ a. a.scope == scope_taken c s) (entries_named c s)) (h WrongScope)))
+    (named_all c s (numbers_in s) (not-false (list_all (λ i. may_take s (entry_at c i)) (numbers_in s)) (sym p ∙ h BadReference)))
+    (each_passes (λ a. a.scope == scope_taken c s) (entries_named c s) (not-false (list_all (λ a. a.scope == scope_taken c s) (entries_named c s)) (sym q ∙ h WrongScope)))

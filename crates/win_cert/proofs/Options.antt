@@ -1,5 +1,5 @@
 -- Answers that may be missing.
-use Rattle.std.proofs.Common.{arith, ℕ, ◌≡◌, ◌≤◌, ◌&&◌, leb, Bool, true, false, cond, Option, Some}
+use Rattle.std.proofs.Common.{arith, ℕ, ◌≡◌, ◌≤◌, leb, Bool, true, false, cond, Option, Some}
 use Rattle.std.proofs.Common.{None, refl}
 use Rattle.std.proofs.lemmas.Bool.Decides.{nat_tests}
 use Rattle.std.specs.Option.{option_and_then, option_map}

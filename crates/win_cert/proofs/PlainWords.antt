@@ -23,7 +23,7 @@ use Rattle.win_cert.specs.declared.lines.End.{End}
 use Rattle.win_cert.specs.declared.lines.End.TheVariants.{At, First, Second}
 use Rattle.win_cert.specs.declared.lines.Line.{Line}
 use Rattle.win_cert.specs.declared.lines.Line.TheVariants.{Adj, And, Key, Or2, Or3, Put, Done, Move}
-use Rattle.win_cert.specs.declared.lines.Line.TheVariants.{Cases, OrMany}
+use Rattle.win_cert.specs.declared.lines.Line.TheVariants.{Cases, Lift, OrMany}
 use Rattle.win_cert.specs.declared.lines.TheConstants.{MOST_NUMBER}
 use Rattle.win_cert.proofs.TextLines.{AreLines, ArePlain, IsLine, Plain}
 use Rattle.win_cert.proofs.WordParts.{row_small}
@@ -117,6 +117,7 @@ plain_line v n (Move k i) size is
     = (plain_code (codes "move") refl, (plain_vertex n k size is.1, plain_numbers (i ∷ []) is.2))
 plain_line v n (Cases numbers) size is
     = (plain_code (codes "cases") refl, plain_numbers numbers is.3)
+plain_line v n (Lift i) size is = (plain_code (codes "lift") refl, plain_numbers (i ∷ []) is.1)
 
 plain_colour : (colour : Colour) → Plain (colour_word colour)
 unfolding are_plain
@@ -138,7 +139,8 @@ plain_steps v n (line ∷ lines) claim size good end =
 version_small : (v : ℕ) → IsVersion v → v < 2 ^ 64
 version_small v (inl e) = omega (arith, e)
 version_small v (inr (inl e)) = omega (arith, e)
-version_small v (inr (inr e)) = omega (arith, e)
+version_small v (inr (inr (inl e))) = omega (arith, e)
+version_small v (inr (inr (inr e))) = omega (arith, e)
 
 -- the lines of a certificate are words without spaces and line feeds
 pub plain_cert : (cert : Cert) → HasBoard cert → HasSpelling cert → AreLines (cert_words cert)

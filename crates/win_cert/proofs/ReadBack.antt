@@ -21,9 +21,9 @@ use Rattle.win_cert.specs.Lines.{stones_in, version_in, with_lines}
 use Rattle.win_cert.specs.Named.{alone, set_named, first_number, statement_named}
 use Rattle.win_cert.specs.Texts.{cert_text, cert_words, claim_words, colour_word, kind_word}
 use Rattle.win_cert.specs.Texts.{line_words, vertices_of}
-use Rattle.win_cert.specs.Writable.{HasBoard, IsLineOf, IsVersion, IsWritable}
+use Rattle.win_cert.specs.Writable.{HasBoard, IsLineOf, IsVersion, IsWritable, most_lines}
 use Rattle.win_cert.specs.declared.certs.Cert.{Cert}
-use Rattle.win_cert.specs.declared.certs.TheConstants.{FIRST_VERSION, LATEST_VERSION, MOST_LINES}
+use Rattle.win_cert.specs.declared.certs.TheConstants.{FIRST_VERSION, LATEST_VERSION}
 use Rattle.win_cert.specs.declared.heads.Head.{Head}
 use Rattle.win_cert.specs.declared.lines.Line.{Line}
 use Rattle.win_cert.specs.declared.lines.TheConstants.{MOST_NUMBER}
@@ -88,7 +88,8 @@ stones_back name n taken s size on apart =
 pub version_low : (v : ℕ) → IsVersion v → (FIRST_VERSION ≤ v) × (v ≤ LATEST_VERSION)
 version_low v (inl e) = (omega (arith, e), omega (arith, e))
 version_low v (inr (inl e)) = (omega (arith, e), omega (arith, e))
-version_low v (inr (inr e)) = (omega (arith, e), omega (arith, e))
+version_low v (inr (inr (inl e))) = (omega (arith, e), omega (arith, e))
+version_low v (inr (inr (inr e))) = (omega (arith, e), omega (arith, e))
 
 pub then_back : {A B : Type 0} (m : ℕ) (o : Option A) (a : A) (f : A → Result B CertError)
     → o ≡ Some a → (at_line m o >>= f) ≡ f a
@@ -124,7 +125,7 @@ head_back head rest some good =
 -- ---- steps
 
 pub steps_more : (v n k : ℕ) (words : Words) (rest : TextLines) → rest ≢ []
-    → steps_in v n k (words ∷ rest) ≡ steps_after k (statement_named v n words) rest
+    → steps_in v n k (words ∷ rest) ≡ steps_after v k (statement_named v n words) rest
     (steps_in v n (suc k) rest)
 steps_more v n k words [] some = absurd (some refl)
 steps_more v n k words (next ∷ rest) some = refl
@@ -137,20 +138,20 @@ append_some (line ∷ lines) words rest e = cc
 -- the words of steps are read as them
 pub steps_back : (v n k : ℕ) (lines : List Line) (kind : Kind) (i : ℕ) → n ≤ 11
     → All (IsLineOf v n) lines → i ≤ MOST_NUMBER
-    → k + length lines ≤ MOST_LINES
+    → k + length lines ≤ most_lines v
     → steps_in v n k (map (line_words n) lines ++ (kind_word kind ∷ decimal i ∷ []) ∷ nothing) ≡ Ok
     (lines, (kind, i))
 steps_back v n k [] kind i size good few room =
-    ap (λ o. steps_after k o nothing (steps_in v n (suc k) nothing))
+    ap (λ o. steps_after v k o nothing (steps_in v n (suc k) nothing))
     (step_back v n (Claim kind i) size few)
 steps_back v n k (line ∷ lines) kind i size good few room =
     let rest = map (line_words n) lines ++ (kind_word kind ∷ decimal i ∷ []) ∷ nothing in
     steps_more v n k (line_words n line) rest
     (append_some (map (line_words n) lines) (kind_word kind ∷ decimal i ∷ []) nothing)
-    ∙ ap (λ o. steps_after k o rest (steps_in v n (suc k) rest))
+    ∙ ap (λ o. steps_after v k o rest (steps_in v n (suc k) rest))
     (step_back v n (Derivation line) size (good 0 line (omega arith)))
     ∙ ap (λ b. cond b (Err TooManyLines) (with_lines (line ∷ []) (steps_in v n (suc k) rest)))
-    (ne_eqb k MOST_LINES (λ e. omega (arith, e, room)))
+    (ne_eqb k (most_lines v) (λ e. omega (arith, e, room)))
     ∙ ap (with_lines (line ∷ []))
     (steps_back v n (suc k) lines kind i size (All-tail (IsLineOf v n) line lines good) few (omega (arith, room)))
 

@@ -4,9 +4,8 @@ use Rattle.std.proofs.Common.{subst, arith}
 use Rattle.std.proofs.lemmas.List.{append-nil, append_assoc}
 use Rattle.win_cert.specs.Lines.{cert_in, cert_of, certs_of, head_in, lines_of, steps_in}
 use Rattle.win_cert.specs.Texts.{cert_text, cert_words, claim_words, line_words}
-use Rattle.win_cert.specs.Writable.{HasBoard, HasSpelling, IsWritable}
+use Rattle.win_cert.specs.Writable.{HasBoard, HasSpelling, IsWritable, most_lines}
 use Rattle.win_cert.specs.declared.certs.Cert.{Cert}
-use Rattle.win_cert.specs.declared.certs.TheConstants.{MOST_LINES}
 use Rattle.win_cert.specs.declared.heads.Head.{Head}
 use Rattle.win_cert.proofs.HeadMeans.{TextLines, bind_ok, head_lines, head_means}
 use Rattle.win_cert.proofs.PlainWords.{plain_cert}
@@ -31,7 +30,7 @@ read_means bytes cert e =
     let whole : Cert = cert_of head s.0 in
     let spelled : HasSpelling whole
     = record { version = good.0.version; lines = steps.good; entry = steps.entry } in
-    let few : length whole.lines ≤ MOST_LINES = let f = steps.few in omega (arith, f) in
+    let few : length whole.lines ≤ most_lines head.version = let f = steps.few in omega (arith, f) in
     let lines = map (line_words head.board.size) whole.lines in
     let cut : lines_of bytes ≡ cert_words whole ++ nothing =
     good.1 ∙ ap (λ rest. head_lines head ++ rest)

@@ -1,5 +1,5 @@
 -- Each line that the solver adds: there is no reason against it, and the entry that it gives.
-use Rattle.std.proofs.Common.{◌≡◌, ℕ, ◌==◌, ◌&&◌, not, true, false, Bool, List, [], ◌∷◌, Some, None}
+use Rattle.std.proofs.Common.{◌≡◌, ℕ, ◌==◌, ◌&&◌, not, true, false, List, [], ◌∷◌, Some, None}
 use Rattle.std.proofs.Common.{min, max, length, refl, ◌∙◌, ap, arith}
 use Rattle.std.specs.List.{cons_option, list_all, list_any}
 use Rattle.std.proofs.lemmas.Bool.{and_from, and_left, and_parts, and_right, both_ways, eq-eqb}

@@ -1,7 +1,6 @@
 -- The parts of a list that is cut at elements.
-use Rattle.win_cert.specs.Words.{is_space_byte, words_in}
-use Rattle.std.proofs.Common.{IsTrue, not, ◌≡◌, ◌≢◌, ℕ, ◌+◌, ◌<◌, ◌≤◌, Bool, true, false, cond, ltb}
-use Rattle.std.proofs.Common.{List, [], ◌∷◌, length, take, drop, ◌-◌, Some, None, refl, ap, sym}
+use Rattle.std.proofs.Common.{◌≡◌, ◌≢◌, ℕ, ◌+◌, ◌<◌, ◌≤◌, Bool, cond, ltb}
+use Rattle.std.proofs.Common.{List, [], ◌∷◌, length, take, drop, Some, None, ap, sym}
 use Rattle.std.proofs.Common.{◌∙◌, subst, arith}
 use Rattle.std.specs.List.{position, position_or_len, slice_split}
 use Rattle.std.proofs.lemmas.Bool.{false_from_ne_true}
@@ -31,9 +30,3 @@ split_first p xs i e =
 -- there is a part
 pub split_some : (p : ℕ → Bool) (xs : List ℕ) → slice_split p xs ≢ []
 split_some p xs e = let n = length-slice_split p xs in let z = ap length e in omega (arith, n, z)
-
--- no word is left exactly if there are no more
-pub done_where : (more : Bool) (rest : List ℕ) (words : List (List ℕ)) → words_in more rest ≡ words
-    → (IsTrue (not more) → words ≡ []) × (words ≡ [] → IsTrue (not more))
-done_where true rest words v = (λ t. cc, λ e. absurd (split_some is_space_byte rest (v ∙ e)))
-done_where false rest words v = (λ t. sym v, λ e. refl)

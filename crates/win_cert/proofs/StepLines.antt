@@ -7,7 +7,7 @@ use Rattle.std.proofs.lemmas.Bool.{ne_eqb}
 use Rattle.std.proofs.lemmas.List.{append_assoc}
 use Rattle.win_cert.specs.Lines.{Steps, steps_after, at_line, line_in, steps_in, with_lines}
 use Rattle.win_cert.specs.Named.{statement_named}
-use Rattle.win_cert.specs.declared.certs.TheConstants.{MOST_LINES}
+use Rattle.win_cert.specs.Writable.{most_lines}
 use Rattle.win_cert.specs.declared.lines.Line.{Line}
 use Rattle.win_cert.specs.declared.refusals.CertError.{CertError}
 use Rattle.win_cert.specs.declared.refusals.CertError.TheVariants.{TooManyLines}
@@ -25,7 +25,7 @@ Taken = Result (Statement × List (List (List ℕ))) CertError
 
 said : (v n k m : ℕ) (words next : List (List ℕ)) (lines rest : List (List (List ℕ))) (line : Line)
     (o : Option Statement)
-    → statement_named v n words ≡ o → k ≢ MOST_LINES
+    → statement_named v n words ≡ o → k ≢ most_lines v
     → ◌≡◌ {A = Taken} (Ok (Derivation line, rest))
     (at_line m (option_map (λ a. (a, next ∷ lines)) o))
     → steps_in v n k (words ∷ next ∷ lines) ≡ with_lines (line ∷ []) (steps_in v n (suc k) rest)
@@ -35,13 +35,13 @@ said v n k m words next lines rest line (Some s) is few e =
     (s, next ∷ lines) = cc in
     let first : Derivation line ≡ s = ap (λ p. p.0) pair in
     let others : rest ≡ next ∷ lines = ap (λ p. p.1) pair in
-    ap (λ o. steps_after k o (next ∷ lines) (steps_in v n (suc k) (next ∷ lines)))
+    ap (λ o. steps_after v k o (next ∷ lines) (steps_in v n (suc k) (next ∷ lines)))
     (is ∙ ap Some (sym first))
-    ∙ ap (λ b. cond b (Err TooManyLines) (with_lines (line ∷ []) (steps_in v n (suc k) (next ∷ lines)))) (ne_eqb k MOST_LINES few)
+    ∙ ap (λ b. cond b (Err TooManyLines) (with_lines (line ∷ []) (steps_in v n (suc k) (next ∷ lines)))) (ne_eqb k (most_lines v) few)
     ∙ ap (λ rest. with_lines (line ∷ []) (steps_in v n (suc k) rest)) (sym others)
 
 -- where a derivation line is said first, the steps are it and the others
-pub line_first : (v n k m : ℕ) (lines rest : List (List (List ℕ))) (line : Line) → k ≢ MOST_LINES
+pub line_first : (v n k m : ℕ) (lines rest : List (List (List ℕ))) (line : Line) → k ≢ most_lines v
     → ◌≡◌ {A = Taken} (Ok (Derivation line, rest)) (at_line m (line_in (statement_named v n) lines))
     → steps_in v n k lines ≡ with_lines (line ∷ []) (steps_in v n (suc k) rest)
 line_first v n k m [] rest line few e = cc
@@ -51,7 +51,7 @@ line_first v n k m (words ∷ next ∷ lines) rest line few e =
 
 -- the same after other lines
 pub line_added : (v n m : ℕ) (old new : List Line) (lines rest : List (List (List ℕ))) (line : Line)
-    → length old ≢ MOST_LINES → new ≡ old ++ line ∷ []
+    → length old ≢ most_lines v → new ≡ old ++ line ∷ []
     → ◌≡◌ {A = Taken} (Ok (Derivation line, rest)) (at_line m (line_in (statement_named v n) lines))
     → with_lines old (steps_in v n (length old) lines) ≡ with_lines new
     (steps_in v n (length new) rest)

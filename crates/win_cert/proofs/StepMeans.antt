@@ -1,5 +1,5 @@
 -- A line that says something is written in the words of what it says.
-use Rattle.std.proofs.Common.{◌≡◌, ℕ, ◌≤◌, ◌⊎◌, ◌&&◌, eqb, leb, inl, inr, Bool, true, false, cond}
+use Rattle.std.proofs.Common.{◌≡◌, ℕ, ◌≤◌, ◌⊎◌, ◌&&◌, leb, inl, inr, Bool, true, false, cond}
 use Rattle.std.proofs.Common.{List, [], ◌∷◌, length, map, Option, Some, None, refl, ap, sym, ◌∙◌}
 use Rattle.std.proofs.Common.{subst, codes}
 use Rattle.std.proofs.lemmas.Bool.{and_parts}
@@ -7,7 +7,6 @@ use Rattle.std.specs.Fmt.{decimal}
 use Rattle.std.specs.List.{All}
 use Rattle.std.specs.Option.{option_and_then}
 use Rattle.std.specs.Str.{bytes_eq}
-use Rattle.std.proofs.lemmas.Bool.Decides.{Decides-eqb}
 use Rattle.std.proofs.lemmas.List.Elements.{All-cons, All-nil}
 use Rattle.std.proofs.lemmas.Slice.Eq.{bytes_eq-Decides}
 use Rattle.hex_cells.specs.Vertices.{vertex_of}
@@ -15,16 +14,17 @@ use Rattle.conn_store.specs.declared.entries.Kind.{Kind}
 use Rattle.conn_store.specs.declared.entries.Kind.TheVariants.{Full, Semi}
 use Rattle.win_cert.specs.Named.{IsStatementOf, adj_in, alone, args_named, cases_in, set_named}
 use Rattle.win_cert.specs.Named.{claim_in, first_cell, first_end, first_number, is_in_version}
-use Rattle.win_cert.specs.Named.{keyword_named, move_in, numbers_named, or_in, or_of, pair_in}
-use Rattle.win_cert.specs.Named.{put_in, statement_named, statement_words}
+use Rattle.win_cert.specs.Named.{keyword_named, lift_in, move_in, numbers_named, or_in, or_of}
+use Rattle.win_cert.specs.Named.{pair_in, put_in, statement_named, statement_words}
 use Rattle.win_cert.specs.Texts.{end_word, kind_word}
 use Rattle.win_cert.specs.Writable.{HasScopes}
 use Rattle.win_cert.specs.declared.certs.TheConstants.{LATEST_VERSION, SECOND_VERSION}
+use Rattle.win_cert.specs.declared.certs.TheConstants.{THIRD_VERSION}
 use Rattle.win_cert.specs.declared.keywords.Keyword.{Keyword}
 use Rattle.win_cert.specs.declared.keywords.Keyword.TheVariants as keyword
 use Rattle.win_cert.specs.declared.lines.Line.{Line}
 use Rattle.win_cert.specs.declared.lines.Line.TheVariants.{Adj, And, Key, Or2, Or3, Put, Done, Move}
-use Rattle.win_cert.specs.declared.lines.Line.TheVariants.{Cases, OrMany}
+use Rattle.win_cert.specs.declared.lines.Line.TheVariants.{Cases, Lift, OrMany}
 use Rattle.win_cert.specs.declared.lines.TheConstants.{LEAST_CASES, LEAST_MANY, MOST_CASES}
 use Rattle.win_cert.specs.declared.lines.TheConstants.{MOST_NUMBER}
 use Rattle.win_cert.specs.declared.statements.Statement.{Statement}
@@ -46,6 +46,7 @@ keyword_text keyword.Put = codes "put"
 keyword_text keyword.Done = codes "done"
 keyword_text keyword.Move = codes "move"
 keyword_text keyword.Cases = codes "cases"
+keyword_text keyword.Lift = codes "lift"
 keyword_text keyword.Full = codes "full"
 keyword_text keyword.Semi = codes "semi"
 
@@ -77,8 +78,8 @@ keyword_means word k =
     next_keyword word keyword.Adj k _
     (next_keyword word keyword.And k _ (next_keyword word keyword.Key k _
     (next_keyword word keyword.Or k _ (next_keyword word keyword.Put k _ (next_keyword word keyword.Done k _
-    (next_keyword word keyword.Move k _ (next_keyword word keyword.Cases k _ (next_keyword word keyword.Full k _
-    (next_keyword word keyword.Semi k _ (no_keyword word k))))))))))
+    (next_keyword word keyword.Move k _ (next_keyword word keyword.Cases k _ (next_keyword word keyword.Lift k _ (next_keyword word keyword.Full k _
+    (next_keyword word keyword.Semi k _ (no_keyword word k)))))))))))
 
 -- ---- what follows each keyword
 
@@ -127,17 +128,17 @@ pair_means v n name line words s says e =
     (subst (λ ws. Means v n name ws (Derivation (line p.0.0 q.0.0))) (sym is) (says p.0.0 q.0.0 i.few j.few))
 
 many_means : (v n : ℕ) (numbers : List ℕ) (s : Statement) → All (λ i. i ≤ MOST_NUMBER) numbers
-    → cond (eqb v LATEST_VERSION && leb LEAST_MANY (length numbers) && leb (length numbers) MOST_CASES) (Some (Derivation (OrMany numbers))) None ≡ Some s
+    → cond (leb THIRD_VERSION v && leb LEAST_MANY (length numbers) && leb (length numbers) MOST_CASES) (Some (Derivation (OrMany numbers))) None ≡ Some s
     → Means v n (codes "or") (map decimal numbers) s
 many_means v n numbers s few e =
     let q = cond_some
-    (eqb v LATEST_VERSION && leb LEAST_MANY (length numbers) && leb (length numbers) MOST_CASES)
+    (leb THIRD_VERSION v && leb LEAST_MANY (length numbers) && leb (length numbers) MOST_CASES)
     (Derivation (OrMany numbers)) s e in
-    let both = and_parts (eqb v LATEST_VERSION && leb LEAST_MANY (length numbers))
+    let both = and_parts (leb THIRD_VERSION v && leb LEAST_MANY (length numbers))
     (leb (length numbers) MOST_CASES) q.0 in
-    let first = and_parts (eqb v LATEST_VERSION) (leb LEAST_MANY (length numbers)) both.0 in
+    let first = and_parts (leb THIRD_VERSION v) (leb LEAST_MANY (length numbers)) both.0 in
     subst (Means v n (codes "or") (map decimal numbers)) q.1 (
-      ((Decides-eqb v LATEST_VERSION).0 first.0, leb_says LEAST_MANY (length numbers) first.1, leb_says (length numbers) MOST_CASES both.1, few),
+      (leb_says THIRD_VERSION v first.0, leb_says LEAST_MANY (length numbers) first.1, leb_says (length numbers) MOST_CASES both.1, few),
       refl,
     )
 
@@ -207,6 +208,17 @@ cases_means v n words s scopes e =
       ap (λ ws. codes "cases" ∷ ws) numbers.1,
     )
 
+lift_means : (v n : ℕ) (words : Words) (s : Statement) → LATEST_VERSION ≤ v
+    → lift_in words ≡ Some s → Means v n (codes "lift") words s
+lift_means v n words s latest e =
+    let p = some_of_then (λ i. alone (Derivation (Lift i.0)) i.1) (first_number words) s e in
+    let r = alone_means (Derivation (Lift p.0.0)) s p.0.1 p.2 in
+    let i = number_means words p.0 p.1 in
+    subst (Means v n (codes "lift") words) r.0 (
+      (latest, one p.0.0 i.few),
+      ap (λ ws. codes "lift" ∷ ws) (i.is ∙ ap (λ ws. decimal p.0.0 ∷ ws) r.1),
+    )
+
 claim_means : (v n : ℕ) (kind : Kind) (words : Words) (s : Statement) → claim_in kind words ≡ Some s
     → Means v n (kind_word kind) words s
 claim_means v n kind words s e =
@@ -236,6 +248,8 @@ args_means v n keyword.Move words s t e
     = move_means v n words s (leb_says SECOND_VERSION v t) e
 args_means v n keyword.Cases words s t e
     = cases_means v n words s (leb_says SECOND_VERSION v t) e
+args_means v n keyword.Lift words s t e
+    = lift_means v n words s (leb_says LATEST_VERSION v t) e
 args_means v n keyword.Full words s t e = claim_means v n Full words s e
 args_means v n keyword.Semi words s t e = claim_means v n Semi words s e
 

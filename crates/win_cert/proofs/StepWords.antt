@@ -1,25 +1,25 @@
 -- What the words of a line say is what they are the words of, and the other way round.
-use Rattle.std.proofs.Common.{◌≡◌, ℕ, ◌*◌, ◌<◌, ◌≤◌, ◌&&◌, eqb, leb, true, cond, List, [], ◌∷◌}
+use Rattle.std.proofs.Common.{◌≡◌, ℕ, ◌*◌, ◌<◌, ◌≤◌, ◌&&◌, leb, true, cond, List, [], ◌∷◌}
 use Rattle.std.proofs.Common.{length, map, Some, None, refl, ap, ◌∙◌, codes, arith}
 use Rattle.std.specs.Fmt.{decimal}
 use Rattle.std.specs.List.{All}
 use Rattle.std.specs.Option.{option_and_then, option_map}
-use Rattle.std.proofs.lemmas.Bool.Decides.{Decides-eqb}
 use Rattle.hex_cells.specs.Vertices.{vertex_of}
 use Rattle.conn_store.specs.declared.entries.Kind.{Kind}
 use Rattle.conn_store.specs.declared.entries.Kind.TheVariants.{Full, Semi}
 use Rattle.win_cert.specs.Named.{IsStatementOf, adj_in, alone, args_named, cases_in, claim_in}
-use Rattle.win_cert.specs.Named.{first_end, first_number, is_in_version, keyword_named, move_in}
+use Rattle.win_cert.specs.Named.{first_end, first_number, is_in_version, keyword_named, lift_in, move_in}
 use Rattle.win_cert.specs.Named.{or_in, or_of, pair_in, statement_named, statement_words}
 use Rattle.win_cert.specs.Texts.{end_word, vertices_of}
 use Rattle.win_cert.specs.Writable.{IsEndOn}
 use Rattle.win_cert.specs.declared.certs.TheConstants.{LATEST_VERSION, SECOND_VERSION}
+use Rattle.win_cert.specs.declared.certs.TheConstants.{THIRD_VERSION}
 use Rattle.win_cert.specs.declared.keywords.Keyword.{Keyword}
 use Rattle.win_cert.specs.declared.keywords.Keyword.TheVariants as keyword
 use Rattle.win_cert.specs.declared.lines.End.{End}
 use Rattle.win_cert.specs.declared.lines.Line.{Line}
 use Rattle.win_cert.specs.declared.lines.Line.TheVariants.{Adj, And, Key, Or2, Or3, Put, Done, Move}
-use Rattle.win_cert.specs.declared.lines.Line.TheVariants.{Cases, OrMany}
+use Rattle.win_cert.specs.declared.lines.Line.TheVariants.{Cases, Lift, OrMany}
 use Rattle.win_cert.specs.declared.lines.TheConstants.{LEAST_CASES, LEAST_MANY, MOST_CASES}
 use Rattle.win_cert.specs.declared.lines.TheConstants.{MOST_NUMBER}
 use Rattle.win_cert.specs.declared.statements.Statement.{Statement}
@@ -61,7 +61,7 @@ or_three_back : (v i j k : ℕ) → All (λ i. i ≤ MOST_NUMBER) (i ∷ j ∷ k
     → or_in v (decimal i ∷ decimal j ∷ decimal k ∷ []) ≡ Some (Derivation (Or3 i j k))
 or_three_back v i j k few = ap (option_and_then (or_of v)) (numbers_back (i ∷ j ∷ k ∷ []) few)
 
-or_many_of : (v : ℕ) (numbers : List ℕ) → v ≡ LATEST_VERSION → LEAST_MANY ≤ length numbers
+or_many_of : (v : ℕ) (numbers : List ℕ) → THIRD_VERSION ≤ v → LEAST_MANY ≤ length numbers
     → length numbers ≤ MOST_CASES → or_of v numbers ≡ Some (Derivation (OrMany numbers))
 or_many_of v [] latest least most = absurd (omega (arith, least))
 or_many_of v (i ∷ []) latest least most = absurd (omega (arith, least))
@@ -71,12 +71,12 @@ or_many_of v (i ∷ j ∷ k ∷ l ∷ rest) latest least most =
     let numbers : List ℕ = i ∷ j ∷ k ∷ l ∷ rest in
     let line = Some (Derivation (OrMany numbers)) in
     ap (λ b. cond (b && leb LEAST_MANY (length numbers) && leb (length numbers) MOST_CASES) line None)
-    ((Decides-eqb v LATEST_VERSION).1 latest)
+    (leb_holds THIRD_VERSION v latest)
     ∙ ap (λ b. cond (b && leb (length numbers) MOST_CASES) line None)
     (leb_holds LEAST_MANY (length numbers) least)
     ∙ ap (λ b. cond b line None) (leb_holds (length numbers) MOST_CASES most)
 
-or_many_back : (v : ℕ) (numbers : List ℕ) → v ≡ LATEST_VERSION → LEAST_MANY ≤ length numbers
+or_many_back : (v : ℕ) (numbers : List ℕ) → THIRD_VERSION ≤ v → LEAST_MANY ≤ length numbers
     → length numbers ≤ MOST_CASES → All (λ i. i ≤ MOST_NUMBER) numbers
     → or_in v (map decimal numbers) ≡ Some (Derivation (OrMany numbers))
 or_many_back v numbers latest least most few =
@@ -101,6 +101,11 @@ cases_back numbers least most few =
     (leb_holds LEAST_CASES (length numbers) least)
     ∙ ap (λ b. cond b (Some (Derivation (Cases numbers))) None)
     (leb_holds (length numbers) MOST_CASES most)
+
+lift_back : (i : ℕ) → All (λ i. i ≤ MOST_NUMBER) (i ∷ [])
+    → lift_in (decimal i ∷ []) ≡ Some (Derivation (Lift i))
+lift_back i few = ap (option_and_then (λ p. alone (Derivation (Lift p.0)) p.1))
+    (number_back i [] (few 0 0 (omega arith)))
 
 claim_back : (kind : Kind) (i : ℕ) → i ≤ MOST_NUMBER
     → claim_in kind (decimal i ∷ []) ≡ Some (Claim kind i)
@@ -143,6 +148,10 @@ step_back v n (Derivation (Cases numbers)) size is
     = by_keyword v n (codes "cases") (map decimal numbers) keyword.Cases refl
     (leb_holds SECOND_VERSION v is.0)
     ∙ cases_back numbers is.1 is.2 is.3
+step_back v n (Derivation (Lift i)) size is
+    = by_keyword v n (codes "lift") (decimal i ∷ []) keyword.Lift refl
+    (leb_holds LATEST_VERSION v is.0)
+    ∙ lift_back i is.1
 step_back v n (Claim Full i) size is
     = by_keyword v n (codes "full") (decimal i ∷ []) keyword.Full refl refl ∙ claim_back Full i is
 step_back v n (Claim Semi i) size is

@@ -14,7 +14,7 @@ use Rattle.win_cert.specs.Verdicts.{Accepted, reason_at}
 use Rattle.win_cert.specs.declared.certs.Cert.{Cert}
 use Rattle.win_cert.specs.declared.lines.Line.{Line}
 use Rattle.win_cert.specs.declared.lines.Line.TheVariants.{Adj, And, Key, Or2, Or3, Put, Done, Move}
-use Rattle.win_cert.specs.declared.lines.Line.TheVariants.{Cases, OrMany}
+use Rattle.win_cert.specs.declared.lines.Line.TheVariants.{Cases, Lift, OrMany}
 use Rattle.win_cert.specs.Contexts.{context_after}
 use Rattle.win_cert.proofs.GivenEntries.{at_left, at_claim, past_claim}
 
@@ -32,6 +32,7 @@ scope_cons s (Put cells) lines = refl
 scope_cons s Done lines = refl
 scope_cons s (Move k i) lines = refl
 scope_cons s (Cases numbers) lines = refl
+scope_cons s (Lift i) lines = refl
 
 scope_more : (s : ℕ) (lines : List Line) (k : ℕ) (line : Line) → slice_get lines k ≡ Some line
     → scope_after s (take (suc k) lines) ≡ scope_after (scope_after s (take k lines)) (line ∷ [])

@@ -9,8 +9,7 @@ use Rattle.std.proofs.lemmas.List.Elements.{All-cons, All-nil}
 use Rattle.win_cert.specs.Lines.{Steps, steps_after, is_nothing, steps_in, with_lines}
 use Rattle.win_cert.specs.Named.{statement_named}
 use Rattle.win_cert.specs.Texts.{kind_word, line_words}
-use Rattle.win_cert.specs.Writable.{IsLineOf}
-use Rattle.win_cert.specs.declared.certs.TheConstants.{MOST_LINES}
+use Rattle.win_cert.specs.Writable.{IsLineOf, most_lines}
 use Rattle.win_cert.specs.declared.lines.TheConstants.{MOST_NUMBER}
 use Rattle.win_cert.specs.declared.refusals.CertError.{CertError}
 use Rattle.win_cert.specs.declared.refusals.CertError.TheVariants.{NotCert, TooManyLines}
@@ -39,7 +38,7 @@ pub record AreSteps (v n k : ℕ) (lines : TextLines) (s : Steps) : Type 0 where
   pub lines_are : lines ≡ map (line_words n) s.0 ++ (kind_word s.1.0 ∷ decimal s.1.1 ∷ []) ∷ nothing
   pub good : All (IsLineOf v n) s.0
   pub entry : s.1.1 ≤ MOST_NUMBER
-  pub few : k + length s.0 ≤ MOST_LINES
+  pub few : k + length s.0 ≤ most_lines v
 
 ok_of_if : {A : Type 0} (b : Bool) (d : CertError) (r : Result A CertError) (y : A)
     → cond b (Err d) r ≡ Ok y → (b ≡ false) × (r ≡ Ok y)
@@ -53,14 +52,14 @@ ok_where false d x y e = cc
 
 one_step : (v n k : ℕ) (words : Words) (rest : TextLines) (later : Result Steps CertError)
     (o : Option Statement) (s : Steps)
-    → statement_named v n words ≡ o → k ≤ MOST_LINES
-    → ((t : Steps) → later ≡ Ok t → suc k ≤ MOST_LINES → AreSteps v n (suc k) rest t)
-    → steps_after k o rest later ≡ Ok s → AreSteps v n k (words ∷ rest) s
+    → statement_named v n words ≡ o → k ≤ most_lines v
+    → ((t : Steps) → later ≡ Ok t → suc k ≤ most_lines v → AreSteps v n (suc k) rest t)
+    → steps_after v k o rest later ≡ Ok s → AreSteps v n k (words ∷ rest) s
 one_step v n k words rest later None s said few others e = cc
 one_step v n k words rest later (Some (Derivation line)) s said few others e =
-    let room = ok_of_if (eqb k MOST_LINES) TooManyLines (with_lines (line ∷ []) later) s e in
-    let below : k ≢ MOST_LINES
-    = not_from_Decides (eqb k MOST_LINES) (Decides-eqb k MOST_LINES) room.0 in
+    let room = ok_of_if (eqb k (most_lines v)) TooManyLines (with_lines (line ∷ []) later) s e in
+    let below : k ≢ most_lines v
+    = not_from_Decides (eqb k (most_lines v)) (Decides-eqb k (most_lines v)) room.0 in
     let t = bind_ok later _ s room.1 in
     let steps = others t.0 t.1 (omega (arith, below)) in
     let means = step_means v n words (Derivation line) said in
@@ -82,7 +81,7 @@ one_step v n k words rest later (Some (Claim kind i)) s said few others e =
     })
 
 -- steps that are read are good, and the lines are their own
-pub steps_mean : (v n k : ℕ) (lines : TextLines) (s : Steps) → k ≤ MOST_LINES
+pub steps_mean : (v n k : ℕ) (lines : TextLines) (s : Steps) → k ≤ most_lines v
     → steps_in v n k lines ≡ Ok s → AreSteps v n k lines s
 steps_mean v n k [] s few e = cc
 steps_mean v n k (words ∷ []) s few e = cc

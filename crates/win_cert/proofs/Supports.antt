@@ -1,4 +1,4 @@
--- The entries on which entries rest: those that are marked.
+-- The entries on which an entry rests: those that are marked.
 use Rattle.std.proofs.Common.{◌≡◌, ℕ, ◌+◌, true, false, Bool, List, [], ◌∷◌, ◌++◌, Some, take, refl}
 use Rattle.std.proofs.Common.{◌∙◌, ap, subst, zero, suc, if◌then◌else◌, arith}
 use Rattle.std.specs.List.{slice_get}
@@ -61,14 +61,13 @@ picked_same set entries n k =
 
 -- ---- the marked entries
 
--- the entries on which the entries of these numbers rest are the marked ones
-pub marked_rest : (d : StoreData) (asked : List ℕ) (marks : List Bool)
-    → AreMarks d.entries asked marks
-    → RestOn d.entries asked (entries_numbered (is_marked marks) d.entries)
-marked_rest d asked marks m = (
+-- the entries on which entry n rests are the marked ones
+pub marked_rest : (d : StoreData) (n : ℕ) (marks : List Bool) → AreMarks d.entries n marks
+    → RestOn d.entries n (entries_numbered (is_marked marks) d.entries)
+marked_rest d n marks m = (
   is_marked marks,
   record {
-    closed = record { whole = m.whole; closed = λ i a h q. m.closed i a (omega arith) h q };
+    closed = record { asked = m.asked; closed = λ i a h q. m.closed i a (omega arith) h q };
     least = m.least;
   },
   refl,

@@ -1,5 +1,5 @@
 -- Lines that are read in turn: what the next line is read over, and that there is no reason against
--- any of them.
+-- any of them. Only private clauses cite this.
 use Rattle.std.specs.Prelude.{◌≡◌, ◌++◌, List, [], ◌∷◌, None}
 use Rattle.hex_cells.specs.declared.colours.Colour.{Colour}
 use Rattle.hex_board.specs.Positions.{Position}

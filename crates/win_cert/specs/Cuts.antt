@@ -56,16 +56,16 @@ premises (AndEmpty i j) = i ∷ j ∷ []
 premises (Or numbers count) =
     get_or numbers 0 0 ∷ get_or numbers 1 0 ∷ (if count == 2 then [] else get_or numbers 2 0 ∷ [])
 
--- the set has the entries of these numbers, and with each entry its premises
-pub record IsClosedSet (entries : List Entry) (asked : List ℕ) (set : ℕ → Bool) : Type 0 where
-  pub whole : All (λ n. set n ≡ true) asked
+-- the set has entry n, and with each entry its premises
+pub record IsClosedSet (entries : List Entry) (n : ℕ) (set : ℕ → Bool) : Type 0 where
+  pub asked : set n ≡ true
   pub closed : (i : ℕ) (a : Entry) → set i ≡ true → slice_get entries i ≡ Some a
       → All (λ j. set j ≡ true) (premises a.cause)
 
--- the set is the least such set: the entries of these numbers rest on the entries in it
-pub record IsSupport (entries : List Entry) (asked : List ℕ) (set : ℕ → Bool) : Type 0 where
-  pub closed : IsClosedSet entries asked set
-  pub least : (other : ℕ → Bool) → IsClosedSet entries asked other
+-- the set is the least such set: entry n rests on the entries in it
+pub record IsSupport (entries : List Entry) (n : ℕ) (set : ℕ → Bool) : Type 0 where
+  pub closed : IsClosedSet entries n set
+  pub least : (other : ℕ → Bool) → IsClosedSet entries n other
       → (i : ℕ) → set i ≡ true → other i ≡ true
 
 -- the entries whose numbers are in the set, in their order
@@ -74,10 +74,10 @@ entries_numbered set [] = []
 entries_numbered set (a ∷ entries) = if set 0 then a ∷ entries_numbered (λ i. set (suc i)) entries
     else entries_numbered (λ i. set (suc i)) entries
 
--- these are the entries on which the entries of these numbers rest, in their order, each once
-abbrev pub RestOn : List Entry → List ℕ → List Entry → Type 0
-RestOn entries asked own =
-    (set : ℕ → Bool) × IsSupport entries asked set × (own ≡ entries_numbered set entries)
+-- these are the entries on which entry n rests, in their order, each once
+abbrev pub RestOn : List Entry → ℕ → List Entry → Type 0
+RestOn entries n own =
+    (set : ℕ → Bool) × IsSupport entries n set × (own ≡ entries_numbered set entries)
 
 -- the entry of a line for entry a of a store, in the scope s
 abbrev pub scoped : ℕ → Entry → ScopedEntry
@@ -86,5 +86,5 @@ scoped s a = record { kind = a.kind; x = a.x; y = a.y; carrier = a.carrier; scop
 -- the lines of the certificate give the entries on which entry n of the store rests, in the store's
 -- order and each once, and nothing else
 abbrev pub HasLinesFor : StoreData → ℕ → Cert → Type 0
-HasLinesFor d n cert = (own : List Entry) × RestOn d.entries (n ∷ []) own
+HasLinesFor d n cert = (own : List Entry) × RestOn d.entries n own
     × (entries_below cert (length cert.lines) ≡ map (λ a. Some (scoped 0 a)) own)

@@ -1,17 +1,20 @@
 -- How a cut goes. Only private clauses cite this.
-use Rattle.std.specs.Prelude.{◌≡◌, ℕ, ◌<◌, ◌≤◌, ◌==◌, Bool, true, false, List, Some, All, length}
-use Rattle.std.specs.Prelude.{get_or, if◌then◌else◌}
+use Rattle.std.specs.Prelude.{◌≡◌, ℕ, ◌<◌, ◌≤◌, ◌==◌, Bool, true, false, List, Option, Some, All}
+use Rattle.std.specs.Prelude.{length, get_or, map, take, if◌then◌else◌}
 use Rattle.std.specs.List.{slice_get}
 use Rattle.hex_cells.specs.Colours.{other_of}
 use Rattle.hex_board.specs.Elements.{PlayerBoard}
 use Rattle.hex_board.specs.Positions.{Apart, Within, stones_of}
 use Rattle.conn_store.specs.declared.entries.Cause.{Cause}
 use Rattle.conn_store.specs.declared.entries.Cause.TheVariants.{Adjacent, AndGroup, AndEmpty, Or}
+use Rattle.conn_store.specs.Stores.{StoreData}
 use Rattle.conn_store.specs.declared.entries.Entry.{Entry}
-use Rattle.win_cert.specs.Cuts.{IsClosedSet, premises}
-use Rattle.win_cert.specs.Entries.{end_element}
+use Rattle.win_cert.specs.Contexts.{AreClear, after_lines, first_context}
+use Rattle.win_cert.specs.Cuts.{IsClosedSet, entries_numbered, premises, scoped}
+use Rattle.win_cert.specs.Entries.{Context, ScopedEntry, end_element, entry_at}
 use Rattle.win_cert.specs.Statements.{is_other_stone}
-use Rattle.win_cert.specs.Writable.{IsEndOn}
+use Rattle.win_cert.specs.Writable.{IsEndOn, IsLineOf}
+use Rattle.win_cert.specs.declared.certs.TheConstants.{FIRST_VERSION}
 use Rattle.win_cert.specs.declared.lines.End.{End}
 use Rattle.win_cert.specs.declared.lines.Line.{Line}
 use Rattle.win_cert.specs.declared.lines.Line.TheVariants.{Adj, And, Key, Or2, Or3}
@@ -35,18 +38,16 @@ IsClosedFrom entries marks i =
 abbrev pub AreInside : List Bool → (ℕ → Bool) → Type 0
 AreInside marks set = (i : ℕ) → is_marked marks i ≡ true → set i ≡ true
 
--- the marked entries are in each set that has the entries of these numbers, and with each entry its
--- premises
-abbrev pub AreLeast : List Entry → List ℕ → List Bool → Type 0
-AreLeast entries asked marks =
-    (set : ℕ → Bool) → IsClosedSet entries asked set → AreInside marks set
+-- the marked entries are in each set that has entry n, and with each entry its premises
+abbrev pub AreLeast : List Entry → ℕ → List Bool → Type 0
+AreLeast entries n marks = (set : ℕ → Bool) → IsClosedSet entries n set → AreInside marks set
 
--- the entries of these numbers are marked, and with each marked entry its premises, and no more
-pub record AreMarks (entries : List Entry) (asked : List ℕ) (marks : List Bool) : Type 0 where
+-- entry n is marked, and with each marked entry its premises, and no more
+pub record AreMarks (entries : List Entry) (n : ℕ) (marks : List Bool) : Type 0 where
   pub number : length marks ≡ length entries
-  pub whole : All (λ n. is_marked marks n ≡ true) asked
+  pub asked : is_marked marks n ≡ true
   pub closed : IsClosedFrom entries marks 0
-  pub least : AreLeast entries asked marks
+  pub least : AreLeast entries n marks
 
 -- marks, and the entries of these numbers that are marked after them
 pub record IsMarkedBy (old : List Bool) (numbers : List ℕ) (new : List Bool) : Type 0 where
@@ -79,3 +80,28 @@ IsLineFor e renamed a (Or numbers count) line = (length numbers ≡ 3) × (line 
     then Or2 (get_or renamed (get_or numbers 0 0) 0) (get_or renamed (get_or numbers 1 0) 0)
     else Or3 (get_or renamed (get_or numbers 0 0) 0) (get_or renamed (get_or numbers 1 0) 0)
     (get_or renamed (get_or numbers 2 0) 0)))
+
+-- what the first line of a certificate of the store's entries is read over
+abbrev pub start_of : StoreData → Context
+start_of d = first_context d.elements.board d.elements.player
+
+-- what the line for an entry gives
+abbrev pub given : Entry → Option ScopedEntry
+given a = Some (scoped 0 a)
+
+-- lines of the first version for the marked ones of the store's first n entries: there is no reason
+-- against any, they set no scope, and they give these entries. For each of the n entries `renamed`
+-- has the number of its line, or of the next line if it has none
+pub record AreLinesFor (d : StoreData) (marks : List Bool) (n : ℕ) (lines : List Line)
+    (renamed : List ℕ) : Type 0 where
+  pub number : length renamed ≡ n
+  pub few : length lines ≤ n
+  pub small : (i : ℕ) → i < n → get_or renamed i 0 ≤ length lines
+  pub form : All (IsLineOf FIRST_VERSION d.elements.board.size) lines
+  pub clear : AreClear (start_of d) lines
+  pub scope : (after_lines (start_of d) lines).scope ≡ 0
+  pub gives : (after_lines (start_of d) lines).earlier ≡ map given
+      (entries_numbered (is_marked marks) (take n d.entries))
+  pub places : (i : ℕ) (a : Entry) → i < n → is_marked marks i ≡ true
+      → slice_get d.entries i ≡ Some a
+      → entry_at (after_lines (start_of d) lines) (get_or renamed i 0) ≡ given a

@@ -1,11 +1,12 @@
 -- Entries in scopes: what each line gives.
 use Rattle.std.specs.Prelude.{ℕ, ◌==◌, ◌||◌, Bool, true, false, List, [], ◌∷◌, ◌++◌, Option, Some}
 use Rattle.std.specs.Prelude.{None, zero, suc, max, min, bit_or, take, if◌then◌else◌}
-use Rattle.std.specs.List.{filter_map, slice_get}
+use Rattle.std.specs.List.{filter_map, find, slice_get}
 use Rattle.std.specs.Option.{option_and_then, option_flatten, option_map}
-use Rattle.hex_cells.specs.Sets.{with_cell}
+use Rattle.hex_cells.specs.Sets.{with_cell, without_cells}
 use Rattle.hex_board.specs.Elements.{PlayerBoard, edge_element, element_of}
-use Rattle.hex_board.specs.Places.{cell_of}
+use Rattle.hex_board.specs.Joined.{cells_of}
+use Rattle.hex_board.specs.Places.{at_cell, cell_of, is_member}
 use Rattle.hex_board.specs.Positions.{stones_of}
 use Rattle.conn_store.specs.Entries.{Connects}
 use Rattle.conn_store.specs.declared.entries.Kind.{Kind}
@@ -16,7 +17,7 @@ use Rattle.win_cert.specs.declared.lines.End.{End}
 use Rattle.win_cert.specs.declared.lines.End.TheVariants.{At, First, Second}
 use Rattle.win_cert.specs.declared.lines.Line.{Line}
 use Rattle.win_cert.specs.declared.lines.Line.TheVariants.{Adj, And, Key, Or2, Or3, Put, Done, Move}
-use Rattle.win_cert.specs.declared.lines.Line.TheVariants.{Cases, OrMany}
+use Rattle.win_cert.specs.declared.lines.Line.TheVariants.{Cases, Lift, OrMany}
 
 -- an entry of elements x and y on the board of a scope, the lesser first; where the player is
 -- joined there, an entry of his edges has element 0 twice
@@ -60,6 +61,17 @@ abbrev pub end_element : PlayerBoard → End → Option ℕ
 end_element e (At k) = element_of e k
 end_element e First = Some (edge_element e false)
 end_element e Second = Some (edge_element e true)
+
+-- an end that names element x: an edge that it holds, or else its least cell
+abbrev pub end_for : PlayerBoard → ℕ → Option End
+end_for e x =
+    if x == edge_element e false then Some First
+    else (if x == edge_element e true then Some Second
+    else option_map At (find (λ k. is_member e x (at_cell k)) (cells_of e.board.size)))
+
+-- the element on the board of d that holds element x of e
+abbrev pub element_on : PlayerBoard → PlayerBoard → ℕ → Option ℕ
+element_on d e x = option_and_then (end_element d) (end_for e x)
 
 -- x is one of the entry's elements
 abbrev pub is_end : ScopedEntry → ℕ → Bool
@@ -113,6 +125,20 @@ abbrev pub move_entry : Context → ℕ → List ScopedEntry → Option ScopedEn
 move_entry c k [] = None
 move_entry c k (a ∷ entries) = Some (edge_entry c Semi (with_cell a.carrier k))
 
+-- what `lift` gives of an entry whose elements x and y hold: the scope's cells leave the carrier
+abbrev pub lift_between : Context → ScopedEntry → Option ℕ → Option ℕ → Option ScopedEntry
+lift_between c a (Some x) (Some y) =
+    Some (entry_between c a.kind x y (without_cells a.carrier c.scope))
+lift_between c a (Some x) None = None
+lift_between c a None y = None
+
+-- what `lift` gives of the entry named
+abbrev pub lift_entry : Context → List ScopedEntry → Option ScopedEntry
+lift_entry c [] = None
+lift_entry c (a ∷ entries) = lift_between c a
+    (element_on (elements_at c) (elements_in c.base a.scope) a.x)
+    (element_on (elements_at c) (elements_in c.base a.scope) a.y)
+
 -- what a derivation line gives
 abbrev pub gives : Context → Line → Option ScopedEntry
 gives c (Adj x y) = adj_entry c (end_element (elements_at c) x) (end_element (elements_at c) y)
@@ -125,6 +151,7 @@ gives c (Put cells) = None
 gives c Done = Some (edge_entry c Full 0)
 gives c (Move k i) = move_entry c k (entries_at c (i ∷ []))
 gives c (Cases numbers) = Some (edge_entry c Full (carriers_of (entries_at c numbers)))
+gives c (Lift i) = lift_entry c (entries_at c (i ∷ []))
 
 -- line k, read over what the lines before it give, in the scope after these
 abbrev pub context_over : Cert → ℕ → List (Option ScopedEntry) → Context

@@ -14,8 +14,6 @@ pub mod Versions
 pub mod Contexts
 pub mod Cuts
 pub mod Cutting
-pub mod Freer
-pub mod Derivations
 pub mod Showing
 pub mod RuleLines
 pub mod Laws

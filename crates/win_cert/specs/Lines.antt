@@ -10,9 +10,10 @@ use Rattle.hex_cells.specs.declared.colours.Colour.TheVariants.{Black, White}
 use Rattle.hex_cells.specs.declared.board_size.TheConstants.Size.{MAX}
 use Rattle.conn_store.specs.declared.entries.Kind.{Kind}
 use Rattle.win_cert.specs.Named.{after_word, alone, set_named, first_number, statement_named}
+use Rattle.win_cert.specs.Writable.{most_lines}
 use Rattle.win_cert.specs.Words.{is_line_feed, is_space_byte}
 use Rattle.win_cert.specs.declared.certs.Cert.{Cert}
-use Rattle.win_cert.specs.declared.certs.TheConstants.{FIRST_VERSION, LATEST_VERSION, MOST_LINES}
+use Rattle.win_cert.specs.declared.certs.TheConstants.{FIRST_VERSION, LATEST_VERSION}
 use Rattle.win_cert.specs.declared.heads.Head.{Head}
 use Rattle.win_cert.specs.declared.lines.Line.{Line}
 use Rattle.win_cert.specs.declared.refusals.CertError.{CertError}
@@ -112,13 +113,14 @@ Steps = List Line × (Kind × ℕ)
 abbrev pub with_lines : List Line → Result Steps CertError → Result Steps CertError
 with_lines front steps = steps >>= λ s. Ok (front ++ s.0, s.1)
 
--- what is read after the head and k lines, where this is said first, before other lines
-abbrev pub steps_after : ℕ → Option Statement → List (List (List ℕ)) → Result Steps CertError
+-- what is read after the head of that version and k lines, where this is said first, before other
+-- lines
+abbrev pub steps_after : ℕ → ℕ → Option Statement → List (List (List ℕ)) → Result Steps CertError
     → Result Steps CertError
-steps_after k None lines others = Err (NotCert (k + 6))
-steps_after k (Some (Derivation line)) lines others =
-    if k == MOST_LINES then Err TooManyLines else with_lines (line ∷ []) others
-steps_after k (Some (Claim kind i)) lines others =
+steps_after version k None lines others = Err (NotCert (k + 6))
+steps_after version k (Some (Derivation line)) lines others =
+    if k == most_lines version then Err TooManyLines else with_lines (line ∷ []) others
+steps_after version k (Some (Claim kind i)) lines others =
     if is_nothing lines then Ok ([], (kind, i)) else Err (NotCert (k + 7))
 
 -- the steps after the head and k lines
@@ -126,7 +128,7 @@ abbrev pub steps_in : ℕ → ℕ → ℕ → List (List (List ℕ)) → Result 
 steps_in version n k [] = Err (NotCert (k + 6))
 steps_in version n k (words ∷ []) = Err (NotCert (k + 6))
 steps_in version n k (words ∷ next ∷ lines) =
-    steps_after k (statement_named version n words) (next ∷ lines)
+    steps_after version k (statement_named version n words) (next ∷ lines)
     (steps_in version n (suc k) (next ∷ lines))
 
 -- the certificate of this head and these steps

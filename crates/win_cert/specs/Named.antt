@@ -1,5 +1,5 @@
 -- What words name, and what the words of a line say. Only private clauses cite this.
-use Rattle.std.specs.Prelude.{ℕ, ◌*◌, ◌≤◌, ◌==◌, ◌&&◌, nat_le, nat_lt, Bool, true, List, [], ◌∷◌}
+use Rattle.std.specs.Prelude.{ℕ, ◌*◌, ◌≤◌, ◌&&◌, nat_le, nat_lt, Bool, true, List, [], ◌∷◌}
 use Rattle.std.specs.Prelude.{Option, Some, None, suc, length, codes, if◌then◌else◌}
 use Rattle.std.specs.Fmt.{decimal}
 use Rattle.std.specs.Option.{option_and_then, option_map}
@@ -12,13 +12,14 @@ use Rattle.conn_store.specs.declared.entries.Kind.TheVariants.{Full, Semi}
 use Rattle.win_cert.specs.Texts.{kind_word, line_words}
 use Rattle.win_cert.specs.Writable.{IsLineOf}
 use Rattle.win_cert.specs.declared.certs.TheConstants.{LATEST_VERSION, SECOND_VERSION}
+use Rattle.win_cert.specs.declared.certs.TheConstants.{THIRD_VERSION}
 use Rattle.win_cert.specs.declared.keywords.Keyword.{Keyword}
 use Rattle.win_cert.specs.declared.keywords.Keyword.TheVariants as keyword
 use Rattle.win_cert.specs.declared.lines.End.{End}
 use Rattle.win_cert.specs.declared.lines.End.TheVariants.{At, First, Second}
 use Rattle.win_cert.specs.declared.lines.Line.{Line}
 use Rattle.win_cert.specs.declared.lines.Line.TheVariants.{Adj, And, Key, Or2, Or3, Put, Done, Move}
-use Rattle.win_cert.specs.declared.lines.Line.TheVariants.{Cases, OrMany}
+use Rattle.win_cert.specs.declared.lines.Line.TheVariants.{Cases, Lift, OrMany}
 use Rattle.win_cert.specs.declared.lines.TheConstants.{LEAST_CASES, LEAST_MANY, MOST_CASES}
 use Rattle.win_cert.specs.declared.lines.TheConstants.{MOST_NUMBER}
 use Rattle.win_cert.specs.declared.statements.Statement.{Statement}
@@ -90,6 +91,7 @@ keyword_named word =
     else if bytes_eq word (codes "done") then Some keyword.Done
     else if bytes_eq word (codes "move") then Some keyword.Move
     else if bytes_eq word (codes "cases") then Some keyword.Cases
+    else if bytes_eq word (codes "lift") then Some keyword.Lift
     else if bytes_eq word (codes "full") then Some keyword.Full
     else if bytes_eq word (codes "semi") then Some keyword.Semi
     else None
@@ -100,6 +102,7 @@ is_in_version version keyword.Put = nat_le SECOND_VERSION version
 is_in_version version keyword.Done = nat_le SECOND_VERSION version
 is_in_version version keyword.Move = nat_le SECOND_VERSION version
 is_in_version version keyword.Cases = nat_le SECOND_VERSION version
+is_in_version version keyword.Lift = nat_le LATEST_VERSION version
 is_in_version version k = true
 
 -- what the words after each keyword say, on the board of size n
@@ -116,7 +119,7 @@ pair_in line words = option_and_then
 abbrev pub or_of : ℕ → List ℕ → Option Statement
 or_of version (i ∷ j ∷ []) = Some (Derivation (Or2 i j))
 or_of version (i ∷ j ∷ k ∷ []) = Some (Derivation (Or3 i j k))
-or_of version numbers = if version == LATEST_VERSION && nat_le LEAST_MANY (length numbers)
+or_of version numbers = if nat_le THIRD_VERSION version && nat_le LEAST_MANY (length numbers)
     && nat_le (length numbers) MOST_CASES then Some (Derivation (OrMany numbers)) else None
 
 abbrev pub or_in : ℕ → List (List ℕ) → Option Statement
@@ -136,6 +139,10 @@ cases_in words = option_and_then
     then Some (Derivation (Cases numbers)) else None)
     (numbers_named words)
 
+abbrev pub lift_in : List (List ℕ) → Option Statement
+lift_in words =
+    option_and_then (λ i. alone (Derivation (Lift i.0)) i.1) (first_number words)
+
 abbrev pub claim_in : Kind → List (List ℕ) → Option Statement
 claim_in kind words =
     option_and_then (λ i. alone (Claim kind i.0) i.1) (first_number words)
@@ -149,6 +156,7 @@ args_named version n keyword.Put words = put_in n words
 args_named version n keyword.Done words = alone (Derivation Done) words
 args_named version n keyword.Move words = move_in n words
 args_named version n keyword.Cases words = cases_in words
+args_named version n keyword.Lift words = lift_in words
 args_named version n keyword.Full words = claim_in Full words
 args_named version n keyword.Semi words = claim_in Semi words
 

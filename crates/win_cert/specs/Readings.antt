@@ -2,9 +2,8 @@
 use Rattle.std.specs.Prelude.{◌≡◌, ℕ, ◌+◌, ◌-◌, ◌≤◌, List, ◌++◌, length, take, Result, Ok, Err}
 use Rattle.std.specs.List.{flat_map}
 use Rattle.win_cert.specs.Texts.{cert_text, cert_words, ended, words_before_claim}
-use Rattle.win_cert.specs.Writable.{HasBoard, HasSpelling, IsWritable}
+use Rattle.win_cert.specs.Writable.{HasBoard, HasSpelling, IsWritable, most_lines}
 use Rattle.win_cert.specs.declared.certs.Cert.{Cert}
-use Rattle.win_cert.specs.declared.certs.TheConstants.{MOST_LINES}
 use Rattle.win_cert.specs.declared.refusals.CertError.{CertError}
 use Rattle.win_cert.specs.declared.refusals.CertError.TheVariants.{NotCert, TooManyLines, Memory}
 
@@ -21,7 +20,7 @@ HasGoodLines bytes n =
 abbrev pub HasTooManyLines : List ℕ → Type 0
 HasTooManyLines bytes =
     (cert : Cert) × (rest : List ℕ) × HasBoard cert × HasSpelling cert
-    × (length cert.lines ≡ MOST_LINES + 1)
+    × (length cert.lines ≡ most_lines cert.version + 1)
     × (bytes ≡ flat_map ended (words_before_claim cert) ++ rest)
 
 -- the bytes are the text of no certificate, and the line with this number, from 1, is the first

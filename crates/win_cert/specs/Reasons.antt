@@ -6,8 +6,9 @@ use Rattle.hex_cells.specs.Sets.{has}
 use Rattle.hex_board.specs.Elements.{are_joined}
 use Rattle.hex_board.specs.Places.{cell_of}
 use Rattle.hex_board.specs.Positions.{is_empty_at}
-use Rattle.win_cert.specs.Entries.{Context, ScopedEntry, elements_at, end_element, entry_at}
-use Rattle.win_cert.specs.Entries.{middle_of, other_end}
+use Rattle.win_cert.specs.Entries.{Context, ScopedEntry, elements_at, end_element, entries_at}
+use Rattle.win_cert.specs.Entries.{entry_at, middle_of, other_end}
+use Rattle.win_cert.specs.Scopes.{is_part}
 use Rattle.win_cert.specs.Statements.{cell_numbers, entries_named}
 use Rattle.win_cert.specs.declared.statements.Statement.{Statement}
 use Rattle.win_cert.specs.declared.statements.Statement.TheVariants.{Derivation}
@@ -15,6 +16,7 @@ use Rattle.win_cert.specs.Statements.{have_same_ends, is_cases, is_cell_in, is_c
 use Rattle.win_cert.specs.Statements.{is_or, is_other_stone, are_near, may_take, numbers_in}
 use Rattle.win_cert.specs.Statements.{scope_taken, share_cell, takes_edges}
 use Rattle.win_cert.specs.declared.lines.Line.TheVariants.{Adj, And, Key, Put, Done, Move}
+use Rattle.win_cert.specs.declared.lines.Line.TheVariants.{Lift}
 use Rattle.win_cert.specs.declared.reasons.Reason.{Reason}
 use Rattle.win_cert.specs.declared.reasons.Reason.TheVariants.{BadReference, WrongColour}
 use Rattle.win_cert.specs.declared.reasons.Reason.TheVariants.{NotNeighbours, NoCommonMiddle}
@@ -30,8 +32,10 @@ order =
     ∷ CarriersMeet ∷ EndInCarrier ∷ MiddleKind ∷ EndsDiffer ∷ CommonCell ∷ NotEdges
     ∷ NotJoined ∷ []
 
--- a number that is named is not that of an earlier line that gives an entry of the kind taken
+-- a number that is named is not that of an earlier line that gives an entry of the kind taken, or
+-- for `lift` of either kind
 abbrev pub is_bad_reference : Context → Statement → Bool
+is_bad_reference c (Derivation (Lift i)) = is_none (entry_at c i)
 is_bad_reference c s = not (list_all (λ i. may_take s (entry_at c i)) (numbers_in s))
 
 -- a cell of `put` is not empty on the board, or that of `move` on the board of the scope
@@ -41,8 +45,11 @@ is_bad_stone c (Derivation (Put cells)) =
 is_bad_stone c (Derivation (Move k i)) = not (is_empty_at (elements_at c).board k)
 is_bad_stone c s = false
 
--- an entry's scope is not the one in which the statement takes entries
+-- an entry's scope is not the one in which the statement takes entries, or for `lift` no part of
+-- its own
 abbrev pub is_wrong_scope : Context → Statement → Bool
+is_wrong_scope c (Derivation (Lift i)) =
+    not (list_all (λ a. is_part a.scope c.scope) (entries_at c (i ∷ [])))
 is_wrong_scope c s = not (list_all (λ a. a.scope == scope_taken c s) (entries_named c s))
 
 -- an end of `adj` is a stone of the opponent

@@ -1,5 +1,5 @@
 -- Scopes: sets of cells on which the player is taken to have stones too.
-use Rattle.std.specs.Prelude.{ℕ, List, [], ◌∷◌, bit_or}
+use Rattle.std.specs.Prelude.{ℕ, ◌==◌, Bool, List, [], ◌∷◌, bit_or}
 use Rattle.hex_cells.specs.declared.colours.Colour.{Colour}
 use Rattle.hex_cells.specs.declared.colours.Colour.TheVariants.{Black, White}
 use Rattle.hex_board.specs.Elements.{PlayerBoard}
@@ -13,6 +13,10 @@ abbrev pub scope_after : ℕ → List Line → ℕ
 scope_after s [] = s
 scope_after s (Put cells ∷ lines) = scope_after cells lines
 scope_after s (line ∷ lines) = scope_after s lines
+
+-- whether each cell of s is one of t
+abbrev pub is_part : ℕ → ℕ → Bool
+is_part s t = bit_or s t == t
 
 -- the board with the player's stones on the cells of s too
 abbrev pub with_stones : Position → Colour → ℕ → Position

@@ -17,7 +17,7 @@ use Rattle.win_cert.specs.Scopes.{elements_in}
 use Rattle.win_cert.specs.declared.lines.End.{End}
 use Rattle.win_cert.specs.declared.lines.End.TheVariants.{At, First, Second}
 use Rattle.win_cert.specs.declared.lines.Line.TheVariants.{Adj, And, Key, Or2, Or3, Put, Done, Move}
-use Rattle.win_cert.specs.declared.lines.Line.TheVariants.{Cases, OrMany}
+use Rattle.win_cert.specs.declared.lines.Line.TheVariants.{Cases, Lift, OrMany}
 use Rattle.win_cert.specs.declared.statements.Statement.{Statement}
 use Rattle.win_cert.specs.declared.statements.Statement.TheVariants.{Claim, Derivation}
 
@@ -33,6 +33,7 @@ numbers_in (Derivation (Put cells)) = []
 numbers_in (Derivation Done) = []
 numbers_in (Derivation (Move k i)) = i ∷ []
 numbers_in (Derivation (Cases numbers)) = numbers
+numbers_in (Derivation (Lift i)) = i ∷ []
 numbers_in (Claim kind i) = i ∷ []
 
 -- the entries that it names
@@ -64,14 +65,14 @@ takes_edges (Derivation (Cases numbers)) = true
 takes_edges (Derivation line) = false
 takes_edges (Claim kind i) = true
 
--- the kind of entry that a statement takes
+-- the kind of entry that a statement takes; `lift` takes either
 abbrev pub kind_taken : Statement → Kind
 kind_taken (Claim kind i) = kind
 kind_taken (Derivation line) =
     if is_or (Derivation line) || is_cases (Derivation line) then Semi else Full
 
 -- the scope in which a statement takes entries: for `move` its own with the cell too, for the claim
--- the empty one, else its own
+-- the empty one, else its own; `lift` takes one in any part of its own
 abbrev pub scope_taken : Context → Statement → ℕ
 scope_taken c (Derivation (Move k i)) = with_cell c.scope k
 scope_taken c (Derivation line) = c.scope

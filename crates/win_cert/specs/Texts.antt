@@ -13,7 +13,7 @@ use Rattle.win_cert.specs.declared.lines.End.{End}
 use Rattle.win_cert.specs.declared.lines.End.TheVariants.{At, First, Second}
 use Rattle.win_cert.specs.declared.lines.Line.{Line}
 use Rattle.win_cert.specs.declared.lines.Line.TheVariants.{Adj, And, Key, Or2, Or3, Put, Done, Move}
-use Rattle.win_cert.specs.declared.lines.Line.TheVariants.{Cases, OrMany}
+use Rattle.win_cert.specs.declared.lines.Line.TheVariants.{Cases, Lift, OrMany}
 
 -- the byte between two words, and the byte that ends a line
 abbrev pub space : ℕ
@@ -44,6 +44,7 @@ line_words n (Put cells) = codes "put" ∷ vertices_of n cells
 line_words n Done = codes "done" ∷ []
 line_words n (Move k i) = codes "move" ∷ vertex_of n k ∷ decimal i ∷ []
 line_words n (Cases numbers) = codes "cases" ∷ map decimal numbers
+line_words n (Lift i) = codes "lift" ∷ decimal i ∷ []
 
 -- the words of the five lines that tell version, size, player and stones
 abbrev pub head_words : Cert → List (List (List ℕ))

@@ -12,10 +12,16 @@ pub const FIRST_VERSION: u32 = 1;
 pub const SECOND_VERSION: u32 = 2;
 
 /// The version in which `or` takes any number of entries.
-pub const LATEST_VERSION: u32 = 3;
+pub const THIRD_VERSION: u32 = 3;
 
-/// The most derivation lines of a certificate.
+/// The version in which entries are lifted to scopes with more stones.
+pub const LATEST_VERSION: u32 = 4;
+
+/// The most derivation lines of a certificate of versions 1 to 3.
 pub const MOST_LINES: usize = 200_000;
+
+/// The most derivation lines of a certificate of version 4.
+pub const MOST_LATEST_LINES: usize = 1_000_000;
 
 /// A certificate.
 #[derive(Debug, Drop)]

@@ -3,7 +3,7 @@
 ghost use Rattle.std.specs.Prelude.{◌≡◌};
 ghost use Rattle.win_cert.specs.Named.{is_in_version, keyword_named};
 
-use super::SECOND_VERSION;
+use super::{LATEST_VERSION, SECOND_VERSION};
 
 /// The first word of a line.
 #[derive(Clone, Copy)]
@@ -16,6 +16,7 @@ pub(crate) enum Keyword {
     Done,
     Move,
     Cases,
+    Lift,
     Full,
     Semi,
 }
@@ -41,6 +42,8 @@ pub(crate) fn keyword_of(word: &[u8]) -> Option<Keyword>
         Some(Keyword::Move)
     } else if word == b"cases".as_slice() {
         Some(Keyword::Cases)
+    } else if word == b"lift".as_slice() {
+        Some(Keyword::Lift)
     } else if word == b"full".as_slice() {
         Some(Keyword::Full)
     } else if word == b"semi".as_slice() {
@@ -59,6 +62,7 @@ pub(crate) fn is_in_version(version: u32, keyword: Keyword) -> bool
         Keyword::Done => SECOND_VERSION <= version,
         Keyword::Move => SECOND_VERSION <= version,
         Keyword::Cases => SECOND_VERSION <= version,
+        Keyword::Lift => LATEST_VERSION <= version,
         _ => true,
     }
 }

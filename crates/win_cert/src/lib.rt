@@ -9,15 +9,14 @@
 //!
 //! **A caller** reads a text ([`read`]), writes one ([`write`], if [`is_writable`]), raises a
 //! certificate to version 2 ([`raise`]) and cuts one from a report ([`cut`], of an entry that
-//! [`edge_numbers`] names), or the lines of one entry or several ([`lines_onto`]). [`version_for`]
-//! is the version that lines need.
+//! [`edge_numbers`] names). [`version_for`] is the version that lines need.
 //!
 //! **What is proved.** The text is a whole list of lines of words (specs/Texts.antt). `write` gives
 //! it. `read` answers the certificate whose text the bytes are, or exactly the first line that is
 //! not as it should be, or that there is a line too many: specs/Readings.antt tells these from the
 //! texts of certificates alone. What is written is read back ([`written_text_is_read_back`]), so a
 //! certificate has one text. What is cut is accepted, and has a line for each entry on which its
-//! entry rests, and no other (specs/Cuts.antt, Derivations.antt). `raise` changes the version alone
+//! entry rests, and no other (specs/Cuts.antt). `raise` changes the version alone
 //! and keeps the verdict. What each line gives, the reasons in their order, accepted and the
 //! verdict are in specs/Entries.antt, Reasons.antt and Verdicts.antt; proofs/Vectors.antt computes
 //! them on certificates. A line has no reason against it exactly if its rule of connection applies
@@ -26,9 +25,9 @@
 //! **What is only tested, or not said.** That calls get their memory; the time, which is linear in
 //! the text's length. What the derived texts of [`CertError`] are.
 //!
-//! **Limits.** [`MOST_LINES`] lines before the claim, numbers up to [`MOST_NUMBER`], and
-//! [`MOST_CASES`] entries in an `or` or a `cases`; [`limits_are_those_of_the_manual`] has them as
-//! numbers.
+//! **Limits.** [`MOST_LINES`] lines before the claim, in version 4 [`MOST_LATEST_LINES`], numbers
+//! up to [`MOST_NUMBER`], and [`MOST_CASES`] entries in an `or` or a `cases`;
+//! [`limits_are_those_of_the_manual`] has them as numbers.
 //!
 //! Source: the rules are those of `conn_store`; scopes and cases are this project's own.
 //!
@@ -46,8 +45,6 @@
 //! - A cut keeps the report's order, so each line names earlier ones. What an entry rests on is the
 //!   least set that has it and with each entry its premises; a body that keeps an entry too many is
 //!   refused. Which rule a line takes is in no clause.
-//! - [`lines_onto`] cuts several entries at once, for any scope, so that they share the lines of
-//!   what they both rest on; [`cut`] is one entry on the report's own board.
 #![tactic(auto)]
 
 mod certs;
@@ -77,9 +74,12 @@ mod versions;
 mod words;
 mod writing;
 
-pub use certs::{Cert, FIRST_VERSION, LATEST_VERSION, MOST_LINES, SECOND_VERSION};
+pub use certs::{
+    Cert, FIRST_VERSION, LATEST_VERSION, MOST_LATEST_LINES, MOST_LINES, SECOND_VERSION,
+    THIRD_VERSION,
+};
 pub use claims::claimed_move;
-pub use cutting::{cut, lines_onto};
+pub use cutting::cut;
 pub use edges::edge_numbers;
 pub use laws::{accepted_certificates_win, claimed_moves_win};
 pub use limits::limits_are_those_of_the_manual;
@@ -94,5 +94,5 @@ pub use spellable::is_writable;
 pub use spelling::written_text_is_read_back;
 pub use statements::Statement;
 pub use verdicts::Verdict;
-pub use versions::version_for;
+pub use versions::{most_lines, version_for};
 pub use writing::write;

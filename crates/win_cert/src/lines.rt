@@ -53,6 +53,9 @@ pub enum Line {
     Move(Cell, u32),
     /// Semi entries of his edges with no cell in all their carriers: a full entry.
     Cases(Numbers),
+    /// An entry of a part of the scope: the same in the scope, between the elements that hold its
+    /// own, without the scope's cells in its carrier.
+    Lift(u32),
 }
 
 /// The derivation lines of a certificate.

@@ -1,4 +1,4 @@
-//! Marks of the entries on which entries rest.
+//! Marks of the entries on which an entry rests.
 
 ghost use Rattle.std.specs.Prelude.{◌<◌, All, IfOk, length};
 ghost use Rattle.win_cert.specs.Cuts.{premises};
@@ -7,18 +7,14 @@ ghost use Rattle.win_cert.specs.Cutting.{AreMarks, IsMarkedBy, NameEarlier};
 use conn_store::{Cause, Entry};
 use std::alloc::{AllocError, Global};
 
-/// Marks the entries with these numbers and those on which they rest, and no other.
-pub(crate) fn marked(
-    alloc: Global,
-    entries: &[Entry],
-    asked: &[u32],
-) -> Result<Vec<bool>, AllocError>
-    requires below { All (λ n. n < length entries.now) asked.now }
+/// Marks the entry and those on which it rests, and no other.
+pub(crate) fn marked(alloc: Global, entries: &[Entry], entry: u32) -> Result<Vec<bool>, AllocError>
+    requires below { entry < length entries.now }
     requires earlier { NameEarlier entries.now }
-    ensures { IfOk result (λ marks. AreMarks entries.now asked.now marks.items) }
+    ensures { IfOk result (λ marks. AreMarks entries.now entry marks.items) }
 {
     let mut marks = vec![in alloc; false; entries.len()]?;
-    mark_all(&mut marks, asked);
+    marks[entry as usize] = true;
     let mut left = entries.len();
     'entries: while 0 < left {
         left -= 1;

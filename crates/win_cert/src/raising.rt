@@ -52,6 +52,7 @@ fn copied(alloc: Global, line: &Line) -> Result<Line, AllocError>
         Line::Done => Ok(Line::Done),
         Line::Move(cell, i) => Ok(Line::Move(*cell, *i)),
         Line::Cases(numbers) => Ok(Line::Cases(copy_of(alloc, numbers)?)),
+        Line::Lift(i) => Ok(Line::Lift(*i)),
     }
 }
 

@@ -10,7 +10,7 @@ use super::refusals::CertError;
 use super::words::Words;
 
 // More lines than a text may have.
-const MANY_LINES: u32 = 1_000_000;
+const MANY_LINES: u32 = 2_000_000;
 
 /// What of a text is left to be read, and how many lines were begun. The lines are counted here
 /// alone.

@@ -6,17 +6,19 @@ ghost use Rattle.win_cert.specs.Lines.{at_line, cert_in, cert_of, certs_of, is_n
 ghost use Rattle.win_cert.specs.OneLine.{IsStatementRead, IsStatementTaken};
 ghost use Rattle.win_cert.specs.declared.refusals.CertError.{CertError};
 ghost use Rattle.win_cert.specs.Readings.{IsParsedAs};
+ghost use Rattle.win_cert.specs.Writable.{most_lines};
 
 use super::heads::Head;
 use super::reader::Reader;
 use super::statements::{Statement, read_statement};
-use super::{Cert, CertError, Line, Lines, MOST_LINES};
+use super::{Cert, CertError, Line, Lines, most_lines};
 use conn_store::Kind;
 use hex_cells::Size;
 use std::alloc::Global;
 
 /// The certificate that the bytes are the text of. `NotCert` names the first line that is not as it
-/// should be, and `TooManyLines` comes exactly if 200,001 good derivation lines follow the head.
+/// should be, and `TooManyLines` comes exactly if one good derivation line more than the version's
+/// most ([`most_lines`](crate::most_lines)) follows the head.
 pub fn read(alloc: Global, bytes: &[u8]) -> Result<Cert, CertError>
     ensures { IsParsedAs bytes.now result }
 {
@@ -72,10 +74,10 @@ fn take_line(
     size: Size,
     lines: &mut Vec<Line>,
 ) -> Result<Option<(Kind, u32)>, CertError>
-    requires few { length lines.old.items ≤ MOST_LINES }
+    requires few { length lines.old.items ≤ most_lines version }
     requires count { reader.old.line ≡ length lines.old.items + 5 }
     ensures count { OnOk result (reader.new.line ≡ reader.old.line + 1) }
-    ensures few { OnOk result (length lines.new.items ≤ MOST_LINES) }
+    ensures few { OnOk result (length lines.new.items ≤ most_lines version) }
     ensures none { result ≡ Ok None → length lines.new.items ≡ length lines.old.items + 1 }
     ensures value { result ≢ Err CertError.Memory
         → IsStatementTaken version size lines.old.items reader.old.rest.now result
@@ -85,7 +87,7 @@ fn take_line(
     match step {
         Statement::Claim(kind, entry) => Ok(Some((kind, entry))),
         Statement::Derivation(line) => {
-            if lines.len() == MOST_LINES {
+            if lines.len() == most_lines(version) {
                 return Err(CertError::TooManyLines);
             }
             add(lines, line)?;
@@ -112,7 +114,7 @@ fn next_step(
     version: u32,
     size: Size,
 ) -> Result<Statement, CertError>
-    requires { reader.old.line < 300_000 }
+    requires { reader.old.line < 1_100_000 }
     ensures count { OnOk result (reader.new.line ≡ reader.old.line + 1) }
     ensures value { result ≢ Err CertError.Memory
         → IsStatementRead version size (reader.old.line + 1) reader.old.rest.now result
@@ -129,7 +131,7 @@ fn next_step(
 
 // The end of the text after the claim.
 fn end(reader: &mut Reader<'_>) -> Result<(), CertError>
-    requires { reader.old.line < 300_000 }
+    requires { reader.old.line < 1_100_000 }
     ensures { result ≡ at_line (reader.old.line + 1)
         (if is_nothing (lines_of reader.old.rest.now) then Some tt else None) }
 {

@@ -21,7 +21,7 @@ pub enum CertError {
     /// line feed and a line after the claim.
     #[error("not a certificate at line {line}")]
     NotCert { line: u32 },
-    /// One line more than [`MOST_LINES`](crate::MOST_LINES) stands before the claim, and all are
+    /// One line more than [`most_lines`](crate::most_lines) stands before the claim, and all are
     /// good up to it. No line after it was looked at.
     #[error("too many lines")]
     TooManyLines,

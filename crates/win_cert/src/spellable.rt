@@ -1,12 +1,13 @@
 //! Whether a certificate can be written.
 
 ghost use Rattle.std.specs.Prelude.{◌↔◌, ◌≤◌, IsTrue, length};
-ghost use Rattle.win_cert.specs.Writable.{AreNumbers, IsEndOn, IsLineOf, IsVersion, IsWritable};
+ghost use Rattle.win_cert.specs.Writable.{AreNumbers, HasSpelling, IsEndOn, IsLineOf, IsVersion};
+ghost use Rattle.win_cert.specs.Writable.{IsWritable, most_lines};
 ghost use Rattle.win_cert.specs.declared.lines.TheConstants.{MOST_CASES};
 
 use super::{
     Cert, End, FIRST_VERSION, LATEST_VERSION, LEAST_CASES, LEAST_MANY, Line, MOST_CASES,
-    MOST_LINES, MOST_NUMBER, SECOND_VERSION,
+    MOST_NUMBER, SECOND_VERSION, THIRD_VERSION, most_lines,
 };
 use hex_cells::{CellSet, Size};
 
@@ -16,21 +17,37 @@ use hex_cells::{CellSet, Size};
 pub fn is_writable(cert: &Cert) -> bool
     ensures { IsTrue result ↔ IsWritable cert.now }
 {
+    has_spelling(cert) && are_few(cert.version, cert.lines.as_slice())
+}
+
+// Whether each part of the certificate can be spelled.
+fn has_spelling(cert: &Cert) -> bool
+    ensures { IsTrue result ↔ HasSpelling cert.now }
+{
     let size = cert.board.size();
     let lines = cert.lines.as_slice();
     is_version(cert.version)
         && cert.entry <= MOST_NUMBER
-        && lines.len() <= MOST_LINES
         && lines
             .iter()
             .all(|line| is_line_of(cert.version, line, size))
+}
+
+// Whether these are no more lines than there may be in that version.
+fn are_few(version: u32, lines: &[Line]) -> bool
+    ensures { IsTrue result ↔ (length lines.now ≤ most_lines version) }
+{
+    lines.len() <= most_lines(version)
 }
 
 // Whether there is this version.
 fn is_version(version: u32) -> bool
     ensures { IsTrue result ↔ IsVersion version }
 {
-    version == FIRST_VERSION || version == SECOND_VERSION || version == LATEST_VERSION
+    version == FIRST_VERSION
+        || version == SECOND_VERSION
+        || version == THIRD_VERSION
+        || version == LATEST_VERSION
 }
 
 // Whether the line is one of that version, its cells lie on the board, and its numbers are not too
@@ -44,12 +61,13 @@ fn is_line_of(version: u32, line: &Line, size: Size) -> bool
         Line::And(i, j) | Line::Key(i, j) | Line::Or2(i, j) => are_numbers(&[*i, *j]),
         Line::Or3(i, j, k) => are_numbers(&[*i, *j, *k]),
         Line::OrMany(numbers) => {
-            version == LATEST_VERSION && are_cases(numbers.as_slice(), LEAST_MANY)
+            THIRD_VERSION <= version && are_cases(numbers.as_slice(), LEAST_MANY)
         }
         Line::Put(cells) => has_scopes && cells.inside(CellSet::all(size)),
         Line::Done => has_scopes,
         Line::Move(cell, i) => has_scopes && cell.number() < size.cells() && are_numbers(&[*i]),
         Line::Cases(numbers) => has_scopes && are_cases(numbers.as_slice(), LEAST_CASES),
+        Line::Lift(i) => LATEST_VERSION <= version && are_numbers(&[*i]),
     }
 }
 

@@ -1,12 +1,12 @@
 //! What a line after the head says: a derivation line, or the claim.
 
 ghost use Rattle.std.specs.Prelude.{◌≡◌, IfOk};
-ghost use Rattle.win_cert.specs.Named.{adj_in, alone, args_named, cases_in, claim_in, move_in};
-ghost use Rattle.win_cert.specs.Named.{or_in, or_of, pair_in, put_in, statement_named};
+ghost use Rattle.win_cert.specs.Named.{adj_in, alone, args_named, cases_in, claim_in, lift_in};
+ghost use Rattle.win_cert.specs.Named.{move_in, or_in, or_of, pair_in, put_in, statement_named};
 
 use super::keywords::{Keyword, is_in_version, keyword_of};
 use super::words::Words;
-use super::{LATEST_VERSION, LEAST_CASES, LEAST_MANY, Line, MOST_CASES, Numbers};
+use super::{LEAST_CASES, LEAST_MANY, Line, MOST_CASES, Numbers, THIRD_VERSION};
 use conn_store::Kind;
 use hex_cells::Size;
 use std::alloc::{AllocError, Global};
@@ -61,6 +61,7 @@ fn read_args(
         Keyword::Done => Ok(read_done(words)),
         Keyword::Move => Ok(read_move(words, size)),
         Keyword::Cases => read_cases(alloc, words),
+        Keyword::Lift => Ok(read_lift(words)),
         Keyword::Full => Ok(read_claim(words, Kind::Full)),
         Keyword::Semi => Ok(read_claim(words, Kind::Semi)),
     }
@@ -116,7 +117,7 @@ fn or_of(version: u32, numbers: Vec<u32>) -> Option<Statement>
     if numbers.len() == 3 {
         return Some(Statement::Derivation(Line::Or3(numbers[0], numbers[1], numbers[2])));
     }
-    if version == LATEST_VERSION && LEAST_MANY <= numbers.len() && numbers.len() <= MOST_CASES {
+    if THIRD_VERSION <= version && LEAST_MANY <= numbers.len() && numbers.len() <= MOST_CASES {
         Some(Statement::Derivation(Line::OrMany(Numbers::of(numbers))))
     } else {
         None
@@ -157,6 +158,14 @@ fn read_cases(alloc: Global, words: &mut Words<'_>) -> Result<Option<Statement>,
     } else {
         Ok(None)
     }
+}
+
+fn read_lift(words: &mut Words<'_>) -> Option<Statement>
+    ensures { result ≡ lift_in words.old }
+{
+    let i = words.number()?;
+    words.nothing()?;
+    Some(Statement::Derivation(Line::Lift(i)))
 }
 
 fn read_claim(words: &mut Words<'_>, kind: Kind) -> Option<Statement>

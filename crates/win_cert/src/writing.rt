@@ -90,6 +90,7 @@ fn push_line(alloc: Global, text: &mut Vec<u8>, line: &Line, size: Size) -> Resu
             push_count(alloc, text, *i)
         }
         Line::Cases(numbers) => push_numbers(alloc, text, b"cases", numbers.as_slice()),
+        Line::Lift(i) => push_numbers(alloc, text, b"lift", &[*i]),
     }
 }
 

@@ -5,14 +5,15 @@ ghost use Rattle.std.specs.Prelude.{IfSome};
 ghost use Rattle.match_ref.specs.Matches.{IsMatch};
 
 use hex_cells::Size;
-use match_ref::{MOST_GAMES, MOST_THREADS, Match, Side, play_match};
+use match_ref::{MOST_GAMES, MOST_THREADS, Match, Openings, Side, play_match};
 use search_team::{CountingGate, Gate};
+use std::alloc::Global;
 use std::sync::atomic::{AtomicBool, AtomicU32, Ordering};
 use std::test::Fail;
 use std::thread;
 
 // A match of so many games of one stone in so many threads, if they are in their ranges.
-fn small_match(games: u32, threads: u32) -> Option<Match>
+fn small_match(alloc: Global, games: u32, threads: u32) -> Option<Match>
     ensures { IfSome result IsMatch }
 {
     let size = Size::of(1)?;
@@ -32,6 +33,7 @@ fn small_match(games: u32, threads: u32) -> Option<Match>
         games,
         threads,
         seed: 0,
+        openings: Openings::none(alloc),
         a: side,
         b: side,
     })
@@ -43,7 +45,7 @@ fn small_match(games: u32, threads: u32) -> Option<Match>
 fn games_meet_at_the_gate(rt: HostRuntime) -> Result<(), Fail> {
     for (games, threads, third) in [(2, 2, 0), (4, 2, 1), (12, 8, 1), (3, 64, 1)] {
         let gate = CountingGate::new(2);
-        let setup = small_match(games, threads).ok_or("a match")?;
+        let setup = small_match(rt.alloc(), games, threads).ok_or("a match")?;
         let played = play_match(&rt, rt.alloc(), &setup, &gate)?;
         assert_eq!(rt; played.len(), games as usize);
         assert_eq!(rt; gate.counts(), [1, 1, third], "{games} {threads}");
@@ -89,7 +91,7 @@ fn games_keep_to_the_threads(rt: HostRuntime) -> Result<(), Fail> {
             most: AtomicU32::new(0),
             threads,
         };
-        let setup = small_match(games, threads).ok_or("a match")?;
+        let setup = small_match(rt.alloc(), games, threads).ok_or("a match")?;
         let played = play_match(&rt, rt.alloc(), &setup, &gate)?;
         assert_eq!(rt; played.len(), games as usize);
         let most = gate.most.load(Ordering::SeqCst);
@@ -126,13 +128,13 @@ impl Gate for MeetingGate {
 /// fewer. Of a match in two threads two would wait for the others in vain.
 #[test]
 fn games_fill_the_threads(rt: HostRuntime) -> Result<(), Fail> {
-    for (games, threads) in [(4, 4), (5, 5), (8, 8), (8, 64), (12, 4)] {
+    for (games, threads) in [(4, 4), (5, 5), (8, 64), (12, 4), (16, 16)] {
         let gate = MeetingGate {
             come: AtomicU32::new(0),
             missed: AtomicBool::new(false),
             meeting: threads.min(games),
         };
-        let setup = small_match(games, threads).ok_or("a match")?;
+        let setup = small_match(rt.alloc(), games, threads).ok_or("a match")?;
         let played = play_match(&rt, rt.alloc(), &setup, &gate)?;
         assert_eq!(rt; played.len(), games as usize);
         assert_eq!(rt; gate.come.load(Ordering::SeqCst), games);

@@ -1,7 +1,7 @@
 //! Moves that are played by what was proved or looked ahead: `--solve` and `--look`.
 
 use super::runs::{ample, check, run_of};
-use super::tables::bytes_of;
+use super::tables::{bytes_of, check_rows};
 use std::alloc::Global;
 use std::process::Abort;
 use std::str::from_utf8;
@@ -19,6 +19,36 @@ six|boardsize 6~genmove b~|win|lost no~
 six-answers|boardsize 6~play b d3~play w d4~genmove b~|win|lost no~
 lost-four|boardsize 4~play b d1~genmove w~|lost yes~allowed a1|lost no~
 lost-five|boardsize 5~play b e2~genmove w~|lost yes~allowed a1|lost no~";
+
+/// What the look-ahead tells of five positions, the same on every machine: rows that are open,
+/// known to be won or lost, and only taken for it, each with its line. By hand no number can be
+/// worked out; a search whose values are the other player's, or that leaves out visits, threats or
+/// bridges, has others.
+static LOOKS: &str = "\
+look-won-by-one|htp --playouts 1 --look 50|\
+    boardsize 5~play b d1~play w b3~play b a4~genmove w~look-report~|0|\
+    = ~~= ~~= ~~= ~~= c2~~= nodes 18~c2 1 1000 won~d2 4 543 line a3 a5 b4~c3 2 380 line a3~\
+    d3 2 520 line a3~b4 0 586~c4 8 737 line b4 c2 a3 b1~d4 0 586~a5 0 586~b5 0 586~c5 0 586~\
+    d5 0 586~~
+look-lost-after-three|htp --playouts 1 --look 50|\
+    boardsize 5~play b e4~play w e3~play b e1~genmove w~look-report~|0|\
+    = ~~= ~~= ~~= ~~= d2~~= nodes 16~d2 9 0 line c2 c3~d3 1 0 lost~c4 2 0 line b4~\
+    d4 1 0 lost~b5 4 0 lost line c4 d2~~
+look-open|htp --playouts 1 --look 50|\
+    boardsize 6~play b f1~play w e1~play b b1~play w d4~genmove b~look-report~|0|\
+    = ~~= ~~= ~~= ~~= ~~= c4~~= nodes 50~f2 1 410~e3 2 444 line e4~f3 1 424~\
+    c4 37 681 line b6 c5 c3 d3~e4 2 454 line e3~f4 1 468~a5 2 416 line b3~d5 1 419~e5 1 419~\
+    f5 1 388~~
+look-taken-for-won|htp --playouts 1 --look 50|\
+    boardsize 6~play b c4~play w a4~play b c1~play w e1~play b e6~genmove w~look-report~|0|\
+    = ~~= ~~= ~~= ~~= ~~= ~~= c2~~= nodes 32~c2 19 1000 line d2 d1 f1 e2 f2 e3~\
+    c3 3 350 line e2 d3~d4 1 0 lost~b5 2 437 line c2~c5 4 467 line c2 d4~d5 2 336 line e3~\
+    a6 1 387~b6 2 429 line d5~~
+look-taken-for-lost|htp --playouts 1 --look 80|\
+    boardsize 7~play b c3~play w d4~play b e2~play w c5~genmove b~look-report~|0|\
+    = ~~= ~~= ~~= ~~= ~~= a6~~= nodes 80~a4 2 309 line b6~b4 11 454 line b6 e4 d6 f5~\
+    c4 2 309 line b6~e4 6 0 line e3~a5 18 0 line b6 e4 e3 g2 f3~b5 12 0 line b6 e4 e3 g2 f3~\
+    a6 12 363 line b4 e4 d6 d5~b6 9 353 line b5 e4 e3 g2 f3~a7 12 375 line b6 e4 d6~~";
 
 // The answers of a session, each without what marks a success or a failure.
 fn answers<R: Abort + Threads + Sync + Alloc<A = Global>>(
@@ -82,7 +112,7 @@ fn plays_what_it_proves(rt: HostRuntime) -> Result<(), Fail> {
 /// cell has a row, and no more nodes are judged than were given.
 #[test]
 fn looks_ahead(rt: HostRuntime) -> Result<(), Fail> {
-    let input = "boardsize 5~play b b2~genmove w~search-report~look-report~mustplay~";
+    let input = "boardsize 6~play b a1~genmove w~search-report~look-report~mustplay~";
     let told = answers(&rt, "htp --playouts 7 --look 20", input)?;
     let [_, _, vertex, search, look, mustplay] = told.as_slice() else {
         return Err(Fail::from("six answers"));
@@ -101,4 +131,9 @@ fn looks_ahead(rt: HostRuntime) -> Result<(), Fail> {
     )?;
     assert_eq!(rt; none.last().ok_or("an answer")?.as_str(), "no look");
     Ok(())
+}
+
+#[test]
+fn looks_are_told(rt: HostRuntime) -> Result<(), Fail> {
+    check_rows(&rt, LOOKS)
 }

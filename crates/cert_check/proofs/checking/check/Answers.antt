@@ -6,7 +6,7 @@ use Rattle.cert_check.specs.Answers.{IsYes}
 use Rattle.win_cert.specs.Contexts.{context_after}
 use Rattle.win_cert.proofs.Stepping.{AreClearTo, all_clear, claim_reason, clear_more, context_step}
 use Rattle.win_cert.proofs.Stepping.{line_reason}
-use Rattle.cert_check.proofs.Stepping.{all_read, is_line, next_line}
+use Rattle.cert_check.proofs.Stepping.{all_read, few_lines, is_line, next_line}
 use Rattle.cert_check.proofs.checking.check.Goals as goal
 use Rattle.cert_check.proofs.checking.check.Goals.{in-Ok-claimed, in-Err-claimed}
 
@@ -43,7 +43,7 @@ returns-in-Err-clause-accepted c =
 pub overflow_add-number : goal.overflow_add-number
 overflow_add-number c =
     let l = is_line c.args.cert.now c.as_slice-line-items.ensures c.lines-test.true in
-    omega (arith, c.lines.invariant.1, c.requires.1, l)
+    let m = few_lines c.args.cert.now.version in omega (arith, c.lines.invariant.1, c.requires.1, l, m)
 
 pub lines-preserved : goal.lines-preserved
 lines-preserved c =

@@ -1,27 +1,35 @@
 -- A plan by connections is one with any budget. A search is among empty cells, and there is one.
-use Rattle.std.proofs.Common.{ℕ, Bool, subst, sym, true}
+use Rattle.std.proofs.Common.{subst, true}
 use Rattle.std.specs.Prelude.{IfOk}
 use Rattle.std.proofs.lemmas.Bool.{not-false}
 use Rattle.hex_board.specs.Elements.{PlayerBoard}
-use Rattle.hex_plan.specs.Plans.{IsConnected, IsPlannedFor}
+use Rattle.hex_plan.specs.Plans.{IsConnected}
 use Rattle.hex_plan.proofs.Allowing.{if_allows}
-use Rattle.hex_plan.proofs.Sought.{if_sought}
+use Rattle.hex_plan.proofs.Sought.{if_planned, if_sought, none_within}
 use Rattle.hex_plan.proofs.planning.plan.Goals as goal
 
 pub returns-in-Some-clause-planned : goal.returns-in-Some-clause-planned
 returns-in-Some-clause-planned c =
     let solve = c.args.means.solve in
-    subst (λ (b : Bool). IfOk c.win_plan.result (IsPlannedFor c.args.board.now c.args.colour b solve)) (sym (not-false c.args.means.hsearch c.if-not-means.false))
+    if_planned c.args.means c.args.board.now c.args.colour c.win_plan.result
+    (not-false c.args.means.hsearch c.if-not-means.false)
     (if_sought solve c.args.board.now c.args.colour c.win_plan.result
-    (subst (λ (e : PlayerBoard). IfOk c.win_plan.result (IsConnected e.board e.player)) c.in_ok-own.ensures.elements c.win_plan.ensures))
+    (subst (λ (e : PlayerBoard). IfOk c.win_plan.result (IsConnected e.board e.player)) c.in_ok-own.ensures.elements c.win_plan.ensures.connected))
+    (none_within solve c.win_plan.result c.win_plan.ensures.none)
 
 pub returns-in-Some-clause-allowed : goal.returns-in-Some-clause-allowed
 returns-in-Some-clause-allowed c =
     let solve = c.args.means.solve in
     if_allows c.args.board.now c.args.colour true solve c.win_plan.result c.requires.room
     (if_sought solve c.args.board.now c.args.colour c.win_plan.result
-    (subst (λ (e : PlayerBoard). IfOk c.win_plan.result (IsConnected e.board e.player)) c.in_ok-own.ensures.elements c.win_plan.ensures))
+    (subst (λ (e : PlayerBoard). IfOk c.win_plan.result (IsConnected e.board e.player)) c.in_ok-own.ensures.elements c.win_plan.ensures.connected))
+
+pub returns-in-None-clause-planned : goal.returns-in-None-clause-planned
+returns-in-None-clause-planned c =
+    if_planned c.args.means c.args.board.now c.args.colour c.unjoined_plan.result
+    (not-false c.args.means.hsearch c.if-not-means.false)
+    c.unjoined_plan.ensures.planned c.unjoined_plan.ensures.within
 
 pub returns-in-None-clause-allowed : goal.returns-in-None-clause-allowed
 returns-in-None-clause-allowed c
-    = if_allows c.args.board.now c.args.colour true c.args.means.solve c.unjoined_plan.result c.requires.room c.unjoined_plan.ensures
+    = if_allows c.args.board.now c.args.colour true c.args.means.solve c.unjoined_plan.result c.requires.room c.unjoined_plan.ensures.planned

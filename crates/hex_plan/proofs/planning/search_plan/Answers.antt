@@ -4,8 +4,8 @@ use Rattle.hex_plan.specs.Plans.{IsMustplay}
 use Rattle.hex_plan.specs.declared.threats.Threat.{Threat}
 use Rattle.hex_plan.proofs.planning.search_plan.Goals as goal
 
-pub returns : goal.returns
-returns c = (
+pub returns-clause-connected : goal.returns-clause-connected
+returns-clause-connected c = (
   c.args.own,
   c.in_ok-other.other,
   refl,

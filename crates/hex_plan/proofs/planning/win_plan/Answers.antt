@@ -1,8 +1,8 @@
 use Rattle.std.proofs.Common.{refl}
 use Rattle.hex_plan.proofs.planning.win_plan.Goals as goal
 
-pub returns : goal.returns
-returns c = (
+pub returns-clause-connected : goal.returns-clause-connected
+returns-clause-connected c = (
   c.args.own,
   refl,
   refl,

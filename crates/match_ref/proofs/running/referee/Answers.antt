@@ -13,7 +13,7 @@ pub match_text-requires : goal.match_text-requires
 match_text-requires g c =
     let m = c.args.asked.now.setup in
     subst (λ (ps : List Played). All (λ p. AreLegal (empty_board m.size) p.steps) ps)
-    (sym c.deref.ensures.value) (all_legal m 0 1 c.in_ok-games.games.items c.in_ok-games.ensures.all)
+    (sym c.deref.ensures.value) (all_legal m 0 1 c.in_ok-games.games.items c.requires c.in_ok-games.ensures.all)
 
 pub returns-in_err-give-clause-referees : goal.returns-in_err-give-clause-referees
 returns-in_err-give-clause-referees g c =

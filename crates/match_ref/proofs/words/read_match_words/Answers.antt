@@ -1,8 +1,10 @@
 use Rattle.std.proofs.Common.{◌≡◌, subst, sym, None}
+use Rattle.std.proofs.lemmas.Result.{IfOk-weaker}
 use Rattle.clap.specs.Words.{App, first_value, found_of}
 use Rattle.option_words.specs.Command.{ReadsForm}
 use Rattle.option_words.specs.Finding.{FindsIn, FindsLine}
 use Rattle.match_ref.specs.MatchTable.{match_app, match_form}
+use Rattle.match_ref.specs.declared.words.MatchWords.{MatchWords}
 use Rattle.match_ref.proofs.WordLaws.{found, match_reads, none_found, ranges_from}
 use Rattle.match_ref.proofs.words.read_match_words.Goals as goal
 
@@ -15,15 +17,16 @@ returns-in-Some-clause-exact c =
     let met : FindsLine match_form words c.in-Some.found
     = subst (FindsIn match_form words) c.in-Some.is
     (c.in_ok-found.ensures match_form (reads_now _ c.in_ok-command.ensures)) in
-    λ w. let both = found words c.in-Some.found w met in (
-      λ is. both.0 ((c.said_match.ensures w).0 is),
-      λ well. (c.said_match.ensures w).1 (both.1 well),
-    )
+    let both = λ (w : MatchWords). found words c.in-Some.found w met in
+    IfOk-weaker c.said_match.result _ _ (λ r h w. (
+      (λ is. (both w).0 ((h w).0 is)),
+      (λ well. (h w).1 ((both w).1 well)),
+    )) c.said_match.ensures
 
 pub returns-in-Some-clause-ranges : goal.returns-in-Some-clause-ranges
-returns-in-Some-clause-ranges c
-    = ranges_from
-    (first_value (found_of c.in-Some.found)) c.said_match.result c.said_match.ensures
+returns-in-Some-clause-ranges c =
+    IfOk-weaker c.said_match.result _ _
+    (λ r h. ranges_from (first_value (found_of c.in-Some.found)) r h) c.said_match.ensures
 
 pub returns-in-None-clause-exact : goal.returns-in-None-clause-exact
 returns-in-None-clause-exact c =

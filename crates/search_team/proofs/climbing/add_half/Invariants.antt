@@ -11,7 +11,7 @@ use Rattle.search_team.proofs.climbing.add_half.Given as goal
 abbrev pub invariant-adds : goal.invariant-adds
 invariant-adds l = record {
   own : IsOf l.tree l.seat;
-  debts : HoldsDebts l.sums l.seat.owed;
+  debts : HoldsDebts l.tree.shape l.sums l.seat.owed;
   run : HasRun (with_climb l.walker l.fn.climb) l.fn.seat.view
       (with_climb l.walker l.climb) l.seat.view;
   node : l.climb ≡ [] → l.fn.climb ≢ [] → l.walker.node < PAST_WORDS;

@@ -11,5 +11,5 @@ give_slot-requires-clause-debts c = c.slots.invariant.debts
 
 pub returns-clause-nothing : goal.returns-clause-nothing
 returns-clause-nothing c =
-    holds-nothing c.slots.sums c.slots.seat.owed c.slots.invariant.debts
+    holds-nothing c.args.tree.now.shape c.slots.sums c.slots.seat.owed c.slots.invariant.debts
     (λ j l. c.slots.invariant.zero j (let far = c.slots-test.false in omega (arith, l, far)))

@@ -9,6 +9,6 @@ abbrev pub invariant-slots : goal.invariant-slots
 invariant-slots l = record {
   own : IsOf l.tree l.seat;
   view : l.seat.view ≡ l.fn.seat.view;
-  debts : HoldsDebts l.sums l.seat.owed;
+  debts : HoldsDebts l.tree.shape l.sums l.seat.owed;
   zero : (j : ℕ) → j < l.i → slice_index l.sums.sums j ≡ 0;
 }

@@ -1,6 +1,8 @@
 -- A new walker begins; each step is one more of its run; what is owed is given at the end.
-use Rattle.std.proofs.Common.{sym, ◌∙◌, refl, subst}
+use Rattle.std.proofs.Common.{sym, ap, ◌∙◌, refl, subst}
 use Rattle.arena_rule.specs.Views.{SeatView}
+use Rattle.tree_words.specs.Settings.{Setting}
+use Rattle.tree_words.specs.declared.settings.Knobs.{Knobs}
 use Rattle.walker.specs.Belongs.{Belongs}
 use Rattle.search_team.specs.Debts.{HoldsDebts}
 use Rattle.search_team.proofs.Going.{run-begins, run-steps}
@@ -16,7 +18,8 @@ steps-init g c =
       own = fresh.own;
       belongs = belongs;
       lone = fresh.lone refl;
-      debts = subst (HoldsDebts c.none-sums.result) (sym fresh.owed) c.none-sums.ensures.none;
+      debts = subst (HoldsDebts c.args.tree.now.shape c.none-sums.result) (sym fresh.owed)
+          (c.none-sums.ensures.none c.args.tree.now.shape (ap (λ (s : Setting). s.knobs.workers) c.requires.shape ∙ ap (λ (k : Knobs). k.workers) (sym c.knobs.ensures.value)));
     }
 
 pub make_seen_adds-requires-clause-lone : goal.make_seen_adds-requires-clause-lone

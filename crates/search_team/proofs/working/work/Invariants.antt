@@ -11,7 +11,7 @@ invariant-steps g l = record {
   own : IsOf l.tree l.seat;
   belongs : Belongs l.walker l.seat.view;
   lone : l.seat.view.whole ≡ None;
-  debts : HoldsDebts l.sums l.seat.owed;
+  debts : HoldsDebts l.tree.shape l.sums l.seat.owed;
 }
 
 abbrev pub decreases-steps : goal.decreases-steps

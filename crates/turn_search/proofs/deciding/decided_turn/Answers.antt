@@ -9,9 +9,10 @@ use Rattle.tree_words.specs.Settings.{Setting}
 use Rattle.tree_words.specs.Trees.{IsTreeOf}
 use Rattle.tree_words.specs.declared.settings.Knobs.{Knobs}
 use Rattle.hex_plan.proofs.Rooms.{empty_in}
+use Rattle.hex_plan.specs.Good.{IsLookedFor}
 use Rattle.hex_plan.specs.Plans.{IsPlanned}
 use Rattle.hex_plan.specs.Turns.{TurnData}
-use Rattle.turn_search.proofs.Searched.{nobody, searched_empty}
+use Rattle.turn_search.proofs.Searched.{looked_for, nobody, searched_empty}
 use Rattle.turn_search.proofs.deciding.decided_turn.Goals as goal
 
 pub plan-requires-clause-room : goal.plan-requires-clause-room
@@ -42,6 +43,13 @@ returns g c =
           (subst (λ (k : Colour). IsPlanned c.args.board.now k c.args.means c.in_ok-planned.planned)
           (sym player) c.in_ok-planned.ensures.planned))
           c.in_ok-looked.ensures.there
+          (subst (λ (p : Position). IsLookedFor p tree.shape.player c.in_ok-planned.planned.plan
+          c.args.means.look c.in_ok-looked.looked) (sym board)
+          (subst (λ (k : Colour). IsLookedFor c.args.board.now k c.in_ok-planned.planned.plan
+          c.args.means.look c.in_ok-looked.looked) (sym player)
+          (looked_for c.args.board.now c.args.colour c.in_ok-planned.planned.plan c.in-Some.allowed
+          c.args.means.look c.in_ok-looked.looked c.in-Some.ensures.search
+          c.in_ok-looked.ensures.look)))
           (record { board = refl; player = refl; allowed = refl; knobs = knobs })
           (λ w. subst (λ (s : Setting). IsTreeOf s tree.words (seq_of s).0) (sym same)
           (c.in-Ok.ensures.one (ap (λ (k : Knobs). k.workers) c.turn_shape-shape.ensures.knobs ∙ w)));

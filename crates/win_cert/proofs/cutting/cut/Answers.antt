@@ -1,29 +1,37 @@
 -- The certificate of the lines is accepted.
-use Rattle.std.proofs.Common.{◌≡◌, ℕ, ◌∙◌, ap, refl}
+use Rattle.std.proofs.Common.{◌≡◌, ℕ, sym, ◌∙◌, ap, subst, refl}
 use Rattle.std.specs.List.{slice_get}
 use Rattle.std.proofs.lemmas.Option.{get_or_from_slice_get}
 use Rattle.conn_store.specs.Stores.{StoreData}
+use Rattle.win_cert.specs.Cutting.{NameEarlier}
+use Rattle.win_cert.specs.declared.certs.Cert.{Cert}
 use Rattle.win_cert.specs.declared.certs.TheConstants.{FIRST_VERSION}
-use Rattle.win_cert.proofs.CutCertificates.{certified, cut_of, first_lines, lines_for}
-use Rattle.win_cert.proofs.CutEnds.{stones_within}
+use Rattle.win_cert.proofs.CutCertificates.{certified, cut_of, has_lines}
+use Rattle.win_cert.proofs.CutDerivations.{name_earlier}
 use Rattle.win_cert.proofs.cutting.cut.Goals as goal
+
+pub marked-requires-clause-earlier : goal.marked-requires-clause-earlier
+marked-requires-clause-earlier c = subst NameEarlier (sym c.entries.ensures.value)
+    (name_earlier c.store-store.result.now c.entries.ensures.sound)
 
 pub returns-clause-certifies : goal.returns-clause-certifies
 returns-clause-certifies c = λ a h.
+    let r = c.args.report.now in
     let n : ℕ = c.args.entry in
     let d = c.store-store.result.now in
-    let same : d ≡ c.args.report.now = c.store-store.ensures.value in
-    certified c.args.report.now n a _
-    (cut_of d c.args.report.now n _ same c.board-2.ensures c.colour-2.ensures c.of.ensures (first_lines c.new-lines.ensures.items c.index.ensures c.in_ok-claimed.ensures.derives) c.entries.ensures.sound
-    (stones_within c.board.result.now d.elements c.colour.result c.stones-stones.result c.board.ensures c.colour.ensures c.stones-stones.ensures.value c.stones-stones.ensures.on_board)) h refl
-    (ap (λ e. e.kind) (get_or_from_slice_get c.entries.result.now n a c.index-entries-entry.result
-    (ap (λ es. slice_get es n) (c.entries.ensures.value ∙ ap (λ (d : StoreData). d.entries) same) ∙ h.0)))
+    let same : d ≡ r = c.store-store.ensures.value in
+    let all = c.entries-2.ensures.value ∙ ap (λ (d : StoreData). d.entries) same in
+    certified r n c.deref.result.now a _
+    (cut_of d r n c.deref.result.now c.in_ok-lines.numbers.items _ same c.requires c.board.ensures c.colour.ensures c.of.ensures c.entries.ensures.value c.entries.ensures.few c.in_ok-marks.ensures c.deref.ensures.value c.in_ok-lines.ensures c.index.ensures) h refl
+    (ap (λ e. e.kind) (get_or_from_slice_get c.entries-2.result.now n a c.index-entries-entry.result
+    (ap (λ es. slice_get es n) all ∙ h.0)))
 
 pub returns-clause-lines : goal.returns-clause-lines
 returns-clause-lines c =
+    let r = c.args.report.now in
+    let n : ℕ = c.args.entry in
     let d = c.store-store.result.now in
     let claim = c.index-entries-entry.result.kind in
-    lines_for c.args.report.now c.args.entry
-    (record { version = FIRST_VERSION; board = c.board-2.result.now; player = c.colour-2.result; lines = c.of.result; claim = claim; entry = c.index.result.now })
-    (cut_of d c.args.report.now c.args.entry _ c.store-store.ensures.value c.board-2.ensures c.colour-2.ensures c.of.ensures (first_lines c.new-lines.ensures.items c.index.ensures c.in_ok-claimed.ensures.derives) c.entries.ensures.sound
-    (stones_within c.board.result.now d.elements c.colour.result c.stones-stones.result c.board.ensures c.colour.ensures c.stones-stones.ensures.value c.stones-stones.ensures.on_board))
+    let cert : Cert = record { version = FIRST_VERSION; board = c.board.result.now; player = c.colour.result; lines = c.of.result; claim = claim; entry = c.index.result.now } in
+    has_lines r n c.deref.result.now cert
+    (cut_of d r n c.deref.result.now c.in_ok-lines.numbers.items cert c.store-store.ensures.value c.requires c.board.ensures c.colour.ensures c.of.ensures c.entries.ensures.value c.entries.ensures.few c.in_ok-marks.ensures c.deref.ensures.value c.in_ok-lines.ensures c.index.ensures)

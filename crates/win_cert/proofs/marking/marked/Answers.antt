@@ -1,27 +1,30 @@
 -- The entries that a marked one names are marked with it.
-use Rattle.std.proofs.Common.{◌≡◌, ℕ, ◌+◌, ◌-◌, ◌<◌, ◌≤◌, All, false, get_or, length, true, sym}
+use Rattle.std.proofs.Common.{◌≡◌, ℕ, ◌+◌, ◌-◌, ◌<◌, ◌≤◌, All, false, get_or, length, set, true, sym}
 use Rattle.std.proofs.Common.{◌∙◌, ap, subst, arith}
-use Rattle.std.proofs.lemmas.List.{length-replicate}
+use Rattle.std.proofs.lemmas.List.{get_or-set_same, length-replicate, length-set}
 use Rattle.std.proofs.lemmas.List.Elements.{All-weaker}
 use Rattle.std.proofs.lemmas.Option.{slice_get-get_or}
 use Rattle.win_cert.specs.Cuts.{premises}
 use Rattle.win_cert.specs.Cutting.{IsClosedFrom, IsMarkedBy, is_marked}
 use Rattle.conn_store.specs.declared.entries.Entry.{Entry}
-use Rattle.win_cert.proofs.CutMarks.{closed_more, marked_at, none_closed, none_inside, read_at}
+use Rattle.win_cert.proofs.CutMarks.{closed_more, inside_one, marked_at, none_closed, none_inside}
+use Rattle.win_cert.proofs.CutMarks.{read_at}
 use Rattle.win_cert.proofs.marking.marked.Goals as goal
 
 pub entries-init : goal.entries-init
 entries-init c =
+    let n : ℕ = c.args.entry in
     let entries = c.args.entries.now in
-    let marks = c.mark_all.new.marks.items in
+    let marks = c.in_ok-marks.marks.items in
     let made = c.in_ok-marks.ensures.items_if_clones_equal (λ y h. h) in
+    let long : length marks ≡ length entries
+    = ap length made ∙ length-replicate (length entries) false in
     record {
-      number = c.mark_all.ensures.number ∙ ap length made ∙ length-replicate (length entries) false;
+      number = length-set marks n true ∙ long;
       left = omega arith;
-      whole = c.mark_all.ensures.more;
-      closed = none_closed entries marks;
-      least = λ s h. c.mark_all.ensures.least s h.whole
-          (none_inside c.in_ok-marks.marks.items (length entries) s made);
+      asked = get_or-set_same marks n true false (subst (λ v. n < v) (sym long) c.requires.below);
+      closed = none_closed entries (set marks n true);
+      least = λ s h. inside_one marks n s (none_inside marks (length entries) s made) h.asked;
     }
 
 pub mark-requires : goal.mark-requires
@@ -54,8 +57,7 @@ entries-preserved-then-index c =
           (subst (λ (v : Entry). All (λ j. s j ≡ true) (premises v.cause)) c.index-entries-left.is
           (f.closed n a (c.entries.invariant.least s f n known) (read_at entries n a (omega arith) c.index-entries-left.is)))
           (c.entries.invariant.least s f);
-      whole = All-weaker (λ k. is_marked c.entries.marks.items k ≡ true)
-          (λ k. is_marked c.mark.new.marks.items k ≡ true) c.mark.ensures.kept c.args.asked.now c.entries.invariant.whole;
+      asked = c.mark.ensures.kept c.args.entry c.entries.invariant.asked;
       closed = closed_more entries c.entries.marks.items c.mark.new.marks.items n a c.requires.earlier (subst (IsClosedFrom entries c.entries.marks.items) up c.entries.invariant.closed)
           (read_at entries n a (omega arith) c.index-entries-left.is)
           (subst (λ (v : Entry). IsMarkedBy c.entries.marks.items (premises v.cause) c.mark.new.marks.items) (sym c.index-entries-left.is) c.mark.ensures);

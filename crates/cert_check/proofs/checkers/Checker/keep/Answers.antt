@@ -22,11 +22,17 @@ with_stones-self-inside-requires c k t =
 pub invariant_of-self-in-Put : goal.invariant_of-self-in-Put
 invariant_of-self-in-Put c =
     let base : PlayerBoard = record { board = c.self.inside.base; player = c.self.inside.player } in
+    let now = c.args.self.now in
     let mine : IsGivenOnIf base c.args.given
     = subst (λ (n : Context). IsGivenOnIf n.base c.args.given)
     (sym c.self.view_is) c.requires.2 in
+    let clear = told_none _ _ _
+    (sym (put_reasons now c.in-Put.cells) ∙ ap (λ l. reason_against now (Derivation l)) (sym c.in-Put.is) ∙ c.requires.0) in
     record {
       is_board = c.with_stones-self-inside.ensures;
+      fresh = λ k t. ap (λ n. is_empty_at n.base.board k) c.self.view_is
+          ∙ none_in now.base.board c.in-Put.cells k
+          (small_set c.in-Put.cells c.keeps.ensures.range k) clear t;
       are_elements = c.number_elements.ensures
           ∙ ap (λ (p : _). record { board = p; player = c.self.inside.player }) c.with_stones-self-inside.ensures;
       are_given = subst (All (IsGivenOnIf base)) (sym c.in-Ok.ensures.items)
@@ -42,6 +48,7 @@ invariant_of-self-in_default c =
     record {
       is_board = c.self.invariant.is_board;
       are_elements = c.self.invariant.are_elements;
+      fresh = c.self.invariant.fresh;
       are_given = subst (All (IsGivenOnIf base)) (sym c.in-Ok.ensures.items)
           (All-push (IsGivenOnIf base) c.self.inside.given.items c.args.given c.self.invariant.are_given mine);
     }

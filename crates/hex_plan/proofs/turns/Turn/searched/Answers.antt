@@ -18,10 +18,11 @@ invariant_of-result c =
     }
 
 pub returns-clause-good : goal.returns-clause-good
-returns-clause-good c = λ knobs means n h looked turn sequential.
+returns-clause-good c = λ knobs means n h looked looks turn sequential.
     let shape = c.shape-shape.ensures.value in
     let board = c.board-board.ensures.value ∙ ap (λ (s : Setting). s.board) shape in
     let colour = c.colour-colour.ensures ∙ ap (λ (s : Setting). s.player) shape in
     good_search knobs means _ c.args.closed refl board colour
     (subst IsSetting shape c.shape-shape.ensures.setting) c.decided-cell.ensures.closed
-    c.decided-cell.ensures.best c.decided-cell.ensures.empty n h c.requires looked turn sequential
+    c.decided-cell.ensures.best c.decided-cell.ensures.empty n h c.requires looked looks turn
+    sequential

@@ -2,4 +2,7 @@ use Rattle.std.proofs.Common.{◌≤◌, length}
 use Rattle.look_ahead.proofs.searches.Look.choose.Given as goal
 
 abbrev pub invariant-walks : goal.invariant-walks
-invariant-walks l = length l.self.nodes.items ≤ l.budget
+invariant-walks l = record {
+  root : 1 ≤ length l.self.nodes.items;
+  few : length l.self.nodes.items ≤ l.budget;
+}

@@ -1,0 +1,82 @@
+"""hexd under limits, for what strangers send: of memory and of the processor's time, as SECURITY.md has them; and an end for each
+process that works on a request."""
+
+import contextlib
+import errno
+import os
+import resource
+import select
+import shutil
+import subprocess
+import threading
+
+import hexd
+
+GIB = 1 << 30
+# A session, and a check; for a solver so much more for a position that it may enter, up to a most.
+SESSION_BYTES, CHECK_BYTES, SOLVE_BYTES = 4 * GIB, GIB, GIB
+POSITION_BYTES, MOST_BYTES = 1_024, 64 * GIB
+# For each worker of a session: its stack, and what the C library reserves for a thread.
+WORKER_BYTES = GIB // 8
+# Of the processor's time a session has a day for each worker; a check has so much, and a solver more for a position.
+SESSION_SECONDS, CHECK_SECONDS, SOLVE_SECONDS, POSITION_SECONDS = 86_400, 120, 60, 4
+MOST_SECONDS = 2**31
+# How often who watches a client looks whether the solver still works.
+WATCH_MILLISECONDS = 500
+# With these words of util-linux before its own a process ends with the thread that started it.
+DYING = [[found, "--pdeathsig", "KILL", "--"] for found in [shutil.which("setpriv")] if found]
+
+
+def hold(process, memory, seconds):
+    """Sets a process's limits, which has begun and got nothing to do yet. A lower limit of the environment stands."""
+    # At the first number of seconds comes a signal that says why the process ends.
+    for kind, *values in ((resource.RLIMIT_AS, memory, memory), (resource.RLIMIT_CPU, seconds, seconds + 1)):
+        _, most = resource.getrlimit(kind)
+        # It may have ended already.
+        with contextlib.suppress(ProcessLookupError):
+            resource.prlimit(process.pid, kind, tuple(values if most == resource.RLIM_INFINITY else (min(it, most) for it in values)))
+
+
+def hold_session(process, workers=1):
+    """Sets the limits of a session with so many workers."""
+    hold(process, SESSION_BYTES + WORKER_BYTES * workers, SESSION_SECONDS * workers)
+
+
+class Held(hexd.Solver):
+    """One process of hexd under limits, which answers once. It ends with the thread that starts it, if util-linux is there."""
+
+    def __init__(self, program, words, memory, seconds):
+        # setpriv would say in its own way that there is no program.
+        if not shutil.which(program):
+            fault = errno.EACCES if os.path.exists(program) else errno.ENOENT
+            raise OSError(fault, os.strerror(fault), str(program))
+        command = [*(DYING[0] if DYING else []), str(program), *words]
+        pipe = subprocess.PIPE
+        self.process = subprocess.Popen(command, stdin=pipe, stdout=pipe, stderr=pipe)
+        hold(self.process, memory, seconds)
+
+
+class Solver(Held):
+    """`hexd solve`, with so much as its budget of positions may take."""
+
+    def __init__(self, budget, program, words=()):
+        memory = min(MOST_BYTES, SOLVE_BYTES + POSITION_BYTES * budget)
+        seconds = min(MOST_SECONDS, SOLVE_SECONDS + POSITION_SECONDS * budget)
+        super().__init__(program, ["solve", "--budget", str(budget), *words], memory, seconds)
+
+    def end_with(self, client):
+        """Sees to it that it ends when its client has gone: closed the connection, or its half of it."""
+        threading.Thread(target=self._watch, args=(client,), daemon=True).start()
+
+    def _watch(self, client):
+        gone = select.poll()
+        gone.register(client, select.POLLRDHUP)
+        while self.process.returncode is None:
+            if gone.poll(WATCH_MILLISECONDS):
+                self.kill()
+                return
+
+
+def check(certificate, program):
+    """What `hexd check` says of the bytes of a certificate: its line. EngineEnded where it ends without one."""
+    return Held(program, ["check"], CHECK_BYTES, CHECK_SECONDS).answer(certificate).strip()

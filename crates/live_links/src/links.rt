@@ -1,0 +1,140 @@
+//! What a player's links have: his elements, and the entries by pair.
+
+use super::bits::Bits;
+use super::entries::{Entry, Held, PAIRS, Pair};
+use super::queues::Queue;
+use hex_board::Board;
+use hex_cells::{CellSet, Colour, MOST_CELLS, Size};
+use std::alloc::{AllocError, Global};
+
+/// The element of the player's first edge. A cell has its own number as an element, and a group
+/// away from the edges that of one of its cells.
+pub(crate) const FIRST: u8 = 121;
+
+/// The element of his second edge.
+pub(crate) const SECOND: u8 = 122;
+
+/// What a cell with a stone of the other player has for an element.
+pub(crate) const NO_ELEMENT: u8 = u8::MAX;
+
+/// When links are done.
+#[derive(Clone, Copy, Debug, PartialEq, Eq)]
+pub enum Until {
+    /// When no rule gives one more entry.
+    Closed,
+    /// At the first entry between the edges, at the latest.
+    AnyWin,
+    /// At the first full entry between the edges, at the latest.
+    FullWin,
+}
+
+/// A player's elements on a board, and the connections between them.
+#[derive(Drop)]
+pub struct Links {
+    pub(crate) size: Size,
+    pub(crate) colour: Colour,
+    pub(crate) stones: CellSet,
+    pub(crate) empties: Bits,
+    // The elements that there are.
+    pub(crate) active: Bits,
+    // The element of each cell.
+    pub(crate) of: [u8; MOST_CELLS as usize],
+    // Of each element those with which it has a full entry that was taken.
+    pub(crate) ways: [Bits; 256],
+    pub(crate) entries: Vec<Entry>,
+    // How many of them weren't given up.
+    pub(crate) live: usize,
+    // The entries of each pair, at its place.
+    pub(crate) pairs: Vec<Held>,
+    pub(crate) queue: Queue,
+}
+
+impl Links {
+    /// No links.
+    pub fn make(alloc: Global) -> Result<Links, AllocError> {
+        let mut links = Links::bare(alloc);
+        links.pairs.resize(PAIRS, Held::none())?;
+        Ok(links)
+    }
+
+    /// No links, and no room for what their pairs have: for copies alone ([`Links::keep`]).
+    pub fn bare(alloc: Global) -> Links {
+        Links {
+            size: Size::LARGEST,
+            colour: Colour::Black,
+            stones: CellSet::none(),
+            empties: Bits::none(),
+            active: Bits::none(),
+            of: [NO_ELEMENT; MOST_CELLS as usize],
+            ways: [Bits::none(); 256],
+            entries: Vec::new(alloc),
+            live: 0,
+            pairs: Vec::new(alloc),
+            queue: Queue::none(),
+        }
+    }
+
+    // Makes these those of a player on a board, before any entry is added.
+    pub(crate) fn clear(&mut self, board: &Board, colour: Colour) {
+        self.size = board.size();
+        self.colour = colour;
+        self.stones = board.stones(colour);
+        self.empties = Bits::of(board.empties());
+        self.ways = [Bits::none(); 256];
+        self.entries.clear();
+        self.live = 0;
+        self.pairs.fill(Held::none());
+        self.queue = Queue::none();
+    }
+
+    /// Whether an entry between the edges was found: the player wins if he moves next.
+    pub fn has_any(&self) -> bool {
+        self.has_edges(true) || self.has_edges(false)
+    }
+
+    /// Whether a full one was found: he wins if the other moves next.
+    pub fn has_full(&self) -> bool {
+        self.has_edges(true)
+    }
+
+    // Whether there is an entry of this kind between the edges.
+    fn has_edges(&self, is_full: bool) -> bool {
+        let held = self.pairs.get(Pair::of(is_full, FIRST, SECOND).place());
+        held.is_some_and(|held| !held.is_empty())
+    }
+
+    /// The empty cells that all semi entries between the edges have in common.
+    pub fn common(&self) -> CellSet {
+        let mut common = self.empties;
+        if let Some(held) = self.pairs.get(Pair::of(false, FIRST, SECOND).place()) {
+            for number in held.numbers() {
+                if let Some(entry) = self.entries.get(*number as usize) {
+                    common = common.meet(entry.carrier);
+                }
+            }
+        }
+        common.cells()
+    }
+
+    /// The set of an element that is an empty cell; none of a group.
+    #[inline(always)]
+    pub(crate) fn alone(&self, element: u8) -> Bits {
+        Bits::single(element).meet(self.empties)
+    }
+
+    /// Says that a full entry was taken between two elements.
+    pub(crate) fn link(&mut self, x: u8, y: u8) {
+        self.ways[x as usize] = self.ways[x as usize].union(Bits::single(y));
+        self.ways[y as usize] = self.ways[y as usize].union(Bits::single(x));
+    }
+
+    /// Says that none was, if none that is left was.
+    pub(crate) fn unlink(&mut self, pair: Pair) {
+        let held = self.pairs.get(pair.place());
+        if pair.is_full && !held.is_some_and(|held| held.has_taken(&self.entries)) {
+            let (x, y) = (pair.x, pair.y);
+            self.ways[x as usize] = self.ways[x as usize].minus(Bits::single(y));
+            self.ways[y as usize] = self.ways[y as usize].minus(Bits::single(x));
+        }
+    }
+}

@@ -1,0 +1,104 @@
+//! Stones of the other player: what needs their cells is given up.
+
+use super::bits::Bits;
+use super::changes::Change;
+use super::entries::{Pair, State};
+use super::links::{FIRST, Links, NO_ELEMENT, SECOND};
+use hex_board::MOST_ELEMENTS;
+use std::alloc::AllocError;
+
+impl Links {
+    /// The other player's stones, of which these are all: their cells are no elements any more.
+    pub(crate) fn lose(&mut self, stones: Bits, change: &mut Change) {
+        let lost = stones.meet(self.empties);
+        change.lost = lost;
+        change.end_at(lost);
+        self.empties = self.empties.minus(lost);
+        self.active = self.active.minus(lost);
+        for of in self.of.iter_mut() {
+            if lost.has(*of) {
+                *of = NO_ELEMENT;
+            }
+        }
+    }
+
+    /// Joins a pair that lost one of as many entries as it may have, and so may have turned others
+    /// away: over each middle, and the full ones also by the rule of OR.
+    pub(crate) fn join_anew(&mut self, pair: Pair) -> Result<(), AllocError> {
+        let held = self.pairs.get_mut(pair.place());
+        if !held.is_some_and(|held| held.is_due(pair.most())) {
+            return Ok(());
+        }
+        let edges = Bits::single(FIRST).union(Bits::single(SECOND));
+        let ways = self.ways[pair.x as usize].meet(self.ways[pair.y as usize]);
+        let mut middles = ways.minus(edges);
+        for _middle in 0..MOST_ELEMENTS {
+            let Some(middle) = middles.take() else {
+                break;
+            };
+            if self.alone(middle).is_empty() == pair.is_full {
+                self.join_over(pair, middle)?;
+            }
+        }
+        if pair.is_full {
+            self.unite_anew(pair)?;
+        }
+        Ok(())
+    }
+
+    // Joins a pair over a middle.
+    fn join_over(&mut self, pair: Pair, middle: u8) -> Result<(), AllocError> {
+        let between = self.alone(middle);
+        let (at_x, at_y) = (self.alone(pair.x), self.alone(pair.y));
+        let Some(firsts) = self
+            .pairs
+            .get(Pair::of(true, pair.x, middle).place())
+            .copied()
+        else {
+            return Ok(());
+        };
+        let Some(seconds) = self
+            .pairs
+            .get(Pair::of(true, middle, pair.y).place())
+            .copied()
+        else {
+            return Ok(());
+        };
+        for first in firsts.numbers() {
+            let Some(first) = self.entries.get(*first as usize) else {
+                continue;
+            };
+            let first = first.carrier;
+            if first.meets(at_y) {
+                continue;
+            }
+            for second in seconds.numbers() {
+                if let Some(second) = self.entries.get(*second as usize)
+                    && !second.carrier.meets(first)
+                    && !second.carrier.meets(at_x)
+                {
+                    let both = first.union(second.carrier).union(between);
+                    self.add(pair, both)?;
+                }
+            }
+        }
+        Ok(())
+    }
+
+    // Unites each semi entry of a pair with the others.
+    fn unite_anew(&mut self, pair: Pair) -> Result<(), AllocError> {
+        let semi = Pair::of(false, pair.x, pair.y);
+        let Some(held) = self.pairs.get(semi.place()).copied() else {
+            return Ok(());
+        };
+        for number in held.numbers() {
+            if let Some(entry) = self.entries.get(*number as usize)
+                && entry.state == State::Taken
+            {
+                let entry = *entry;
+                self.unite(*number, &entry)?;
+            }
+        }
+        Ok(())
+    }
+}
