@@ -290,8 +290,9 @@ class Requests(unittest.TestCase):
             (engine, limits.SESSION_BYTES + limits.WORKER_BYTES, limits.SESSION_SECONDS),
             (solver, limits.MOST_BYTES, limits.MOST_SECONDS),
         ):
+            # That of time is set last, a moment after the process is there.
+            until(lambda: resource.prlimit(process, resource.RLIMIT_CPU) == (seconds, seconds + 1), "its time has a limit")
             self.assertEqual((memory, memory), resource.prlimit(process, resource.RLIMIT_AS))
-            self.assertEqual((seconds, seconds + 1), resource.prlimit(process, resource.RLIMIT_CPU))
 
     def test_a_broken_head_is_no_request(self):
         """One that breaks off, or whose lengths may stand in what can't be read, makes nothing; nor is its body a request."""
