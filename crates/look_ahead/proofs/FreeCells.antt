@@ -6,7 +6,7 @@ use Rattle.std.proofs.lemmas.List.Elements.{All-cons, All-nil, All-push}
 use Rattle.std.proofs.lemmas.List.Quantifiers.{all_pairs_push}
 use Rattle.hex_cells.specs.Sets.{has}
 use Rattle.hex_board.specs.Positions.{Position, is_empty_at}
-use Rattle.look_ahead.specs.Looked.{IsLine}
+use Rattle.look_ahead.specs.Looked.{IsPlayableLine}
 
 -- two cells that aren't the same
 abbrev pub AreTwo : ℕ → ℕ → Type 0
@@ -14,7 +14,7 @@ AreTwo a b = a ≢ b
 
 -- a line after cell k so far, and the set of the cells by which it may go on
 pub record IsLineSoFar (board : Position) (k : ℕ) (moves : List ℕ) (free : ℕ) : Type 0 where
-  pub line : IsLine board k moves
+  pub line : IsPlayableLine board k moves
   pub empty : (j : ℕ) → has free j ≡ true → is_empty_at board j ≡ true
   pub others : (j : ℕ) → has free j ≡ true → All (λ a. AreTwo a j) (k ∷ moves)
 

@@ -44,13 +44,13 @@ IsTrueRow board player row = IsTrueOf board player row.cell row.known
 
 -- the cells of a line that goes on after a stone on cell k are empty on the board, and neither k
 -- nor any of them comes twice: so the players can place on them in turn
-pub record IsLine (board : Position) (k : ℕ) (line : List ℕ) : Type 0 where
+pub record IsPlayableLine (board : Position) (k : ℕ) (line : List ℕ) : Type 0 where
   pub empty : All (λ c. is_empty_at board c ≡ true) line
   pub apart : AllPairs (λ a b. a ≢ b) (k ∷ line)
 
 -- the line of a row goes on after its cell
 abbrev pub IsLinedRow : Position → LookRow → Type 0
-IsLinedRow board row = IsLine board row.cell row.line.items
+IsLinedRow board row = IsPlayableLine board row.cell row.line.items
 
 -- the class of a row: known to be won 4, taken for won 3, taken for lost 1, known to be lost 0, and
 -- any other 2

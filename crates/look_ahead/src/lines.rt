@@ -2,7 +2,7 @@
 
 ghost use Rattle.std.specs.Prelude.{◌≡◌, IfOk, IfSome, true};
 ghost use Rattle.hex_cells.specs.Sets.{has};
-ghost use Rattle.look_ahead.specs.Looked.{IsLine};
+ghost use Rattle.look_ahead.specs.Looked.{IsPlayableLine};
 
 use super::nodes::{Kid, LookNode, NOWHERE, State};
 use super::refusals::Memory;
@@ -26,7 +26,7 @@ impl Look {
         board: &Board,
         cell: Cell,
     ) -> Result<Vec<Cell>, Memory>
-        ensures { IfOk result (λ line. IsLine board.now cell line.items) }
+        ensures { IfOk result (λ line. IsPlayableLine board.now cell line.items) }
     {
         let mut line = Vec::new(alloc);
         let mut free = board.empties().without(cell);

@@ -16,7 +16,7 @@ use Rattle.hex_plan.proofs.Same.{same_turn}
 use Rattle.match_ref.specs.declared.settings.Match.{Match}
 use Rattle.match_ref.specs.declared.settings.Side.{Side}
 use Rattle.match_ref.specs.declared.played.Played.{Played}
-use Rattle.match_ref.specs.Matches.{IsMatchGame, IsTurnCell, PlaysOn, SearchAlone, first_mover}
+use Rattle.match_ref.specs.Matches.{IsMatchGame, IsTurnCell, PlaysOn, SearchAlone, first_side}
 use Rattle.match_ref.specs.Matches.{first_steps, game_with, is_side_a, opened_game, opening_of}
 use Rattle.match_ref.specs.Matches.{side_knobs, side_means, side_of, turns_made}
 
@@ -60,7 +60,7 @@ pub same_game : (m : Match) (i : ℕ) (p q : Played) → SearchAlone m → IsMat
 same_game m i p q alone h g =
     let opening = opening_of m i in
     let sides : h.sides ≡ g.sides
-    = same_steps m i (opened_game m i) (first_mover opening) h.sides g.sides alone h.plays g.plays in
+    = same_steps m i (opened_game m i) (first_side opening) h.sides g.sides alone h.plays g.plays in
     let steps : p.steps ≡ q.steps
     = h.opens ∙ (ap (λ s. first_steps opening ++ s) sides ∙ sym g.opens) in
     let winner : p.winner ≡ q.winner = h.winner

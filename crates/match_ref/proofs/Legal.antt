@@ -23,7 +23,7 @@ use Rattle.hex_game.proofs.Over.{not_over}
 use Rattle.tree_words.specs.declared.settings.Knobs.{Knobs}
 use Rattle.hex_plan.specs.declared.settings.Means.{Means}
 use Rattle.match_ref.specs.declared.played.Played.{Played}
-use Rattle.match_ref.specs.Matches.{IsMatch, IsMatchGame, IsTurnCell, PlaysOn, first_mover}
+use Rattle.match_ref.specs.Matches.{IsMatch, IsMatchGame, IsTurnCell, PlaysOn, first_side}
 use Rattle.match_ref.specs.Matches.{first_steps, game_with, opened_game, opening_of, side_knobs}
 use Rattle.match_ref.specs.Matches.{side_means, side_of, turns_made}
 use Rattle.match_ref.proofs.ListLaws.{IsOn}
@@ -46,7 +46,7 @@ turn_is_legal knobs means game mover turns cell h =
 -- match game i
 abbrev pub SidesGoOn : Match → ℕ → GameData → Colour → List Step → Type 0
 SidesGoOn m i game mover sides = (rest : List Step) → PlaysOn m i game mover rest
-    → PlaysOn m i (opened_game m i) (first_mover (opening_of m i)) (sides ++ rest)
+    → PlaysOn m i (opened_game m i) (first_side (opening_of m i)) (sides ++ rest)
 
 -- the steps so far are the opening's and those of the sides
 pub record StepsGoOn (m : Match) (i : ℕ) (game : GameData) (mover : Colour) : Type 0 where
@@ -57,7 +57,7 @@ pub record StepsGoOn (m : Match) (i : ℕ) (game : GameData) (mover : Colour) : 
 
 -- the sides have played nothing yet
 pub opened : (m : Match) (i : ℕ) (game : GameData) (mover : Colour) → game ≡ opened_game m i
-    → mover ≡ first_mover (opening_of m i) → StepsGoOn m i game mover
+    → mover ≡ first_side (opening_of m i) → StepsGoOn m i game mover
 opened m i game mover is first = record {
   start = ap (λ g. g.start) is;
   sides = [];
@@ -79,7 +79,7 @@ step_more m i game mover cell goes may turn =
       sides = goes.sides ++ step ∷ [];
       opens = ap (λ s. s ++ step ∷ []) goes.opens
           ∙ append_assoc (first_steps opening) goes.sides (step ∷ []);
-      plays = λ rest more. subst (PlaysOn m i (opened_game m i) (first_mover opening))
+      plays = λ rest more. subst (PlaysOn m i (opened_game m i) (first_side opening))
           (sym (append_assoc goes.sides (step ∷ []) rest))
           (goes.plays (step ∷ rest) (may, cell, refl, turn, more));
     }
@@ -95,7 +95,7 @@ ended m i game mover p goes over steps winner =
     record {
       sides = goes.sides;
       opens = steps ∙ goes.opens;
-      plays = subst (PlaysOn m i (opened_game m i) (first_mover opening)) (append-nil goes.sides)
+      plays = subst (PlaysOn m i (opened_game m i) (first_side opening)) (append-nil goes.sides)
           (goes.plays [] over);
       winner = winner
           ∙ (ap (λ g. winner_of (board_of g)) same ∙ ap (λ s. winner_of (board_of (game_with m s)))
@@ -176,7 +176,7 @@ pub steps_legal : (m : Match) (i : ℕ) (p : Played) → IsMatch m → IsMatchGa
     → AreLegal (empty_board m.size) p.steps
 steps_legal m i p is h =
     subst (AreLegal (empty_board m.size)) (sym h.opens)
-    (legal_after m i (opening_of m i) (first_mover (opening_of m i)) h.sides (opening_on m i is)
+    (legal_after m i (opening_of m i) (first_side (opening_of m i)) h.sides (opening_on m i is)
     h.plays)
 
 pub all_legal : (m : Match) (i step : ℕ) (ps : List Played) → IsMatch m → AreGamesBy m i step ps

@@ -44,9 +44,9 @@ first_steps None = []
 first_steps (Some cell) = step_of Black (Stone cell) ∷ []
 
 -- whose side moves first: White's, if there is an opening
-abbrev pub first_mover : Option ℕ → Colour
-first_mover None = Black
-first_mover (Some cell) = White
+abbrev pub first_side : Option ℕ → Colour
+first_side None = Black
+first_side (Some cell) = White
 
 -- the seed of that side in game i: S + 2i·2^40 for side a and S + (2i+1)·2^40 for side b, modulo
 -- 2^64, if S is the seed of the match
@@ -115,7 +115,7 @@ opened_game m i = game_with m (first_steps (opening_of m i))
 pub record IsMatchGame (m : Match) (i : ℕ) (p : Played) : Type 0 where
   pub sides : List Step
   pub opens : p.steps ≡ first_steps (opening_of m i) ++ sides
-  pub plays : PlaysOn m i (opened_game m i) (first_mover (opening_of m i)) sides
+  pub plays : PlaysOn m i (opened_game m i) (first_side (opening_of m i)) sides
   pub winner : p.winner ≡ winner_of (board_of (game_with m p.steps))
 
 -- the knobs of a side are in their ranges, whatever its seed

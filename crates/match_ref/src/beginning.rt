@@ -5,7 +5,7 @@ ghost use Rattle.hex_game.specs.Games.{IsOnBoard, board_of, is_legal, with_step}
 ghost use Rattle.hex_game.specs.Moves.{step_of};
 ghost use Rattle.hex_game.specs.declared.moves.Move.TheVariants.{Stone};
 ghost use Rattle.hex_game.specs.declared.moves.TheConstants.{MOST_STEPS};
-ghost use Rattle.match_ref.specs.Matches.{IsMatch, first_mover, first_steps, opened_game};
+ghost use Rattle.match_ref.specs.Matches.{IsMatch, first_side, first_steps, opened_game};
 ghost use Rattle.match_ref.specs.Matches.{opening_of};
 
 use super::refusals::Memory;
@@ -28,8 +28,8 @@ fn opening_of(setup: &Match, number: u32) -> Option<Cell>
 }
 
 /// The colour whose side moves first in the game with this number.
-pub fn first_mover(setup: &Match, number: u32) -> Colour
-    ensures { result ≡ first_mover (opening_of setup.now number) }
+pub fn first_side(setup: &Match, number: u32) -> Colour
+    ensures { result ≡ first_side (opening_of setup.now number) }
 {
     match opening_of(setup, number) {
         None => Colour::Black,

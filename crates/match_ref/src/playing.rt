@@ -9,7 +9,7 @@ ghost use Rattle.match_ref.specs.Matches.{IsMatch, IsMatchGame, IsTurnCell, is_s
 ghost use Rattle.match_ref.specs.Matches.{opening_of, side_means, side_of, turns_made};
 ghost use Rattle.match_ref.specs.declared.settings.TheConstants.{MOST_GAMES};
 
-use super::beginning::{first_mover, opened_game, opening_length, put_stone};
+use super::beginning::{first_side, opened_game, opening_length, put_stone};
 use super::passes::GatePass;
 use super::played::{Played, Steps};
 use super::refusals::Memory;
@@ -141,7 +141,7 @@ pub fn play_game<R: Threads + Sync>(
 {
     let number = pass.number();
     let mut game = opened_game(alloc, setup, number)?;
-    let mut mover = first_mover(setup, number);
+    let mut mover = first_side(setup, number);
     'moves: while may_move(game.board()) {
         let knobs = side_knobs(setup, number, mover);
         let means = side_means(&side_of(setup, number, mover));

@@ -17,7 +17,7 @@ use Rattle.conn_store.specs.declared.entries.TheConstants.{MOST_ENTRIES}
 use Rattle.win_cert.specs.Contexts.{AreClear, after_lines, first_context}
 use Rattle.win_cert.specs.Cuts.{CertifiesEntry, HasEdgeEntryAt, HasLinesFor, IsEdgeEntryAt}
 use Rattle.win_cert.specs.Cuts.{entries_numbered, scoped}
-use Rattle.win_cert.specs.Cutting.{AreLinesFor, AreMarks, given, is_marked, start_of}
+use Rattle.win_cert.specs.Cutting.{AreLinesFor, AreMarks, given, is_marked, report_context}
 use Rattle.win_cert.specs.Entries.{Context, elements_at, entry_at}
 use Rattle.win_cert.specs.Statements.{is_edge_entry}
 use Rattle.win_cert.specs.Verdicts.{IsVerdict}
@@ -66,7 +66,7 @@ cut_of {m = m} d r n marks renamed cert h at b p l es few known same w e =
     })
 
 first_same : (d : StoreData) (n : ℕ) (marks : List Bool) (cert : Cert) → IsCutOf d n marks cert
-    → first_of cert ≡ start_of d
+    → first_of cert ≡ report_context d
 first_same d n marks cert w = ap (λ (p : Position). first_context p cert.player) w.board
     ∙ ap (λ (q : Colour). first_context d.elements.board q) w.player
 
@@ -96,7 +96,7 @@ claimed : (d : StoreData) (n : ℕ) (marks : List Bool) (a : Entry) (cert : Cert
     → entry_at (after_lines (first_of cert) cert.lines) cert.entry ≡ Some (scoped 0 a)
 claimed d n marks a cert w at =
     ap (λ c. entry_at (after_lines c cert.lines) cert.entry) (first_same d n marks cert w)
-    ∙ ap (entry_at (after_lines (start_of d) cert.lines)) w.entry
+    ∙ ap (entry_at (after_lines (report_context d) cert.lines)) w.entry
     ∙ w.lines.places n a (slice_get_within d.entries n a at) w.known.asked at
 
 pub certified : (d : StoreData) (n : ℕ) (marks : List Bool) (a : Entry) (cert : Cert)

@@ -20,7 +20,8 @@ use Rattle.conn_store.specs.declared.entries.TheConstants.{MOST_ENTRIES}
 use Rattle.conn_store.proofs.RuleTruth.{taken_back}
 use Rattle.win_cert.specs.Contexts.{after_lines, context_after}
 use Rattle.win_cert.specs.Cuts.{entries_numbered, premises, scoped}
-use Rattle.win_cert.specs.Cutting.{AreLinesFor, IsClosedFrom, IsLineFor, given, is_marked, start_of}
+use Rattle.win_cert.specs.Cutting.{AreLinesFor, IsClosedFrom, IsLineFor, given, is_marked}
+use Rattle.win_cert.specs.Cutting.{report_context}
 use Rattle.win_cert.specs.Entries.{Context, elements_at, entry_at}
 use Rattle.win_cert.specs.Scopes.{elements_in, scope_after}
 use Rattle.win_cert.specs.Writable.{IsLineOf}
@@ -53,10 +54,10 @@ scope_stays e renamed a (Or numbers count) line s h = or_stays s _ _ _ _ line h.
 -- the board over which the next line is read is the store's
 read_on : (d : StoreData) (marks : List Bool) (n : ℕ) (lines : List Line) (renamed : List ℕ)
     → AreLinesFor d marks n lines renamed
-    → elements_at (after_lines (start_of d) lines) ≡ d.elements
+    → elements_at (after_lines (report_context d) lines) ≡ d.elements
 read_on d marks n lines renamed w =
-    let cx = after_lines (start_of d) lines in
-    ap (λ (b : PlayerBoard). elements_in b cx.scope) (base_after (start_of d) lines)
+    let cx = after_lines (report_context d) lines in
+    ap (λ (b : PlayerBoard). elements_in b cx.scope) (base_after (report_context d) lines)
     ∙ ap (elements_in d.elements) w.scope ∙ unscoped_board d.elements
 
 -- the next line gives the next entry
@@ -64,9 +65,9 @@ next_right : (d : StoreData) (marks : List Bool) (n : ℕ) (lines : List Line) (
     (a : Entry) (line : Line) → AreLinesFor d marks n lines renamed → IsSound d
     → IsClosedFrom d.entries marks 0 → slice_get d.entries n ≡ Some a → is_marked marks n ≡ true
     → IsLineFor d.elements (renamed ++ length lines ∷ []) a a.cause line
-    → IsRight (after_lines (start_of d) lines) line a
+    → IsRight (after_lines (report_context d) lines) line a
 next_right d marks n lines renamed a line w s closed at known form =
-    let cx = after_lines (start_of d) lines in
+    let cx = after_lines (report_context d) lines in
     let more = renamed ++ length lines ∷ [] in
     let from = take n d.entries in
     let k : length renamed ≡ n = w.number in
@@ -125,16 +126,16 @@ pub one_more : (d : StoreData) (marks : List Bool) (n : ℕ) (lines : List Line)
     → IsLineFor d.elements (renamed ++ length lines ∷ []) a a.cause line
     → AreLinesFor d marks (n + 1) (lines ++ line ∷ []) (renamed ++ length lines ∷ [])
 one_more d marks n lines renamed a line w s most closed at known form =
-    let cx = after_lines (start_of d) lines in
+    let cx = after_lines (report_context d) lines in
     let more = renamed ++ length lines ∷ [] in
     let k : length renamed ≡ n = w.number in
     let f : length lines ≤ n = w.few in
     let l : length (lines ++ line ∷ []) ≡ length lines + 1 = longer lines line in
     let right = next_right d marks n lines renamed a line w s closed at known form in
     let gives = right.0 ∙ ap (λ v. Some (scoped v a)) w.scope in
-    let next : after_lines (start_of d) (lines ++ line ∷ []) ≡ context_after cx line
-    = after_append (start_of d) lines (line ∷ []) in
-    let long : length cx.earlier ≡ 0 + length lines = length_after (start_of d) lines in
+    let next : after_lines (report_context d) (lines ++ line ∷ []) ≡ context_after cx line
+    = after_append (report_context d) lines (line ∷ []) in
+    let long : length cx.earlier ≡ 0 + length lines = length_after (report_context d) lines in
     let last : get_or more n 0 ≡ length cx.earlier = ap (λ v. get_or more v 0) (sym k)
     ∙ get_or-append_seam renamed (length lines) [] 0 ∙ omega (arith, long) in
     record {
@@ -143,7 +144,7 @@ one_more d marks n lines renamed a line w s most closed at known form =
       small = λ i h. next_small renamed n (length lines) (length (lines ++ line ∷ [])) i k (omega (arith, l)) w.small h;
       form = All-push (IsLineOf FIRST_VERSION d.elements.board.size) lines line w.form
           (next_form d marks n lines renamed a line w s most at form);
-      clear = clear_append (start_of d) lines (line ∷ []) w.clear (right.1, tt);
+      clear = clear_append (report_context d) lines (line ∷ []) w.clear (right.1, tt);
       scope = ap (λ (x : Context). x.scope) next
           ∙ scope_stays d.elements more a a.cause line cx.scope form ∙ w.scope;
       gives = ap (λ (x : Context). x.earlier) next ∙ ap (λ o. cx.earlier ++ o ∷ []) gives
@@ -181,7 +182,7 @@ none_more d marks n lines renamed w h =
       gives = w.gives ∙ ap (map given) (sym (picked_same (is_marked marks) d.entries n h));
       places = λ i a l g q. elim (cases_order i n) [
         | inl p ↦ absurd (true≢false (sym g ∙ ap (is_marked marks) p ∙ h))
-        | inr (inl p) ↦ ap (entry_at (after_lines (start_of d) lines))
+        | inr (inl p) ↦ ap (entry_at (after_lines (report_context d) lines))
             (get_or-append renamed (length lines ∷ []) 0 i (omega (arith, p))) ∙ w.places i a p g q
         | inr (inr p) ↦ absurd (omega arith)
       ];

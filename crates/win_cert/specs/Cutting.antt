@@ -82,8 +82,8 @@ IsLineFor e renamed a (Or numbers count) line = (length numbers ≡ 3) × (line 
     (get_or renamed (get_or numbers 2 0) 0)))
 
 -- what the first line of a certificate of the store's entries is read over
-abbrev pub start_of : StoreData → Context
-start_of d = first_context d.elements.board d.elements.player
+abbrev pub report_context : StoreData → Context
+report_context d = first_context d.elements.board d.elements.player
 
 -- what the line for an entry gives
 abbrev pub given : Entry → Option ScopedEntry
@@ -98,10 +98,10 @@ pub record AreLinesFor (d : StoreData) (marks : List Bool) (n : ℕ) (lines : Li
   pub few : length lines ≤ n
   pub small : (i : ℕ) → i < n → get_or renamed i 0 ≤ length lines
   pub form : All (IsLineOf FIRST_VERSION d.elements.board.size) lines
-  pub clear : AreClear (start_of d) lines
-  pub scope : (after_lines (start_of d) lines).scope ≡ 0
-  pub gives : (after_lines (start_of d) lines).earlier ≡ map given
+  pub clear : AreClear (report_context d) lines
+  pub scope : (after_lines (report_context d) lines).scope ≡ 0
+  pub gives : (after_lines (report_context d) lines).earlier ≡ map given
       (entries_numbered (is_marked marks) (take n d.entries))
   pub places : (i : ℕ) (a : Entry) → i < n → is_marked marks i ≡ true
       → slice_get d.entries i ≡ Some a
-      → entry_at (after_lines (start_of d) lines) (get_or renamed i 0) ≡ given a
+      → entry_at (after_lines (report_context d) lines) (get_or renamed i 0) ≡ given a
