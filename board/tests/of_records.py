@@ -207,6 +207,7 @@ class Records(Pages):
         self.soon_in("Proved: after Black's b2 Black wins; a swap takes the win.", "#words")
         self.soon_in("Solved: without a swap Black wins, whatever White plays", "#words")
         self.soon_in("By the certificate Black answers b1 by c1, c1 by b1", "#words")
+        self.soon(1, lambda: browser.text("#words").count("Black answers"))
         before = (browser.text("#words"), self.carrier())
         browser.reload()
         self.soon(before, lambda: (browser.text("#words"), self.carrier()))
