@@ -387,6 +387,8 @@ class Page(InBrowser):
         self.assertNotIn("not in this page", browser.text("#words"))
         replies = browser.vertices("[data-vertex]:has(.reply)")
         self.assertIn(len(replies), range(1, 49))
+        # hexd plays the winner, until one says otherwise.
+        browser.choose("#player-b", "I")
         browser.click("#new")
         self.said("Of 47 the certificate is not in this page")
         self.assertEqual(self.winners("7")["7"], self.marked())

@@ -206,7 +206,8 @@ class Records(Pages):
         browser.ready()
         self.soon_in("Proved: after Black's b2 Black wins; a swap takes the win.", "#words")
         self.soon_in("Solved: without a swap Black wins, whatever White plays", "#words")
-        self.soon_in("By the certificate Black answers a1 by ", "#words")
+        self.soon_in("By the certificate Black answers b1 by c1, c1 by b1", "#words")
+        self.soon(1, lambda: browser.text("#words").count("Black answers"))
         before = (browser.text("#words"), self.carrier())
         browser.reload()
         self.soon(before, lambda: (browser.text("#words"), self.carrier()))
@@ -233,7 +234,7 @@ class Records(Pages):
         # The browser itself does nothing with what the page takes.
         self.assertEqual([False, False], browser.run(drop, FULL.decode()))
         self.soon("3,b2", self.link)
-        self.soon_in("By the certificate Black answers a1 by ", "#words")
+        self.soon_in("By the certificate Black answers b1 by c1, c1 by b1", "#words")
 
     def test_a_certificate_wins_for_a_weak_hexd(self):
         """By the certificate alone: this hexd sees nothing else."""
