@@ -87,6 +87,7 @@ mod edges;
 mod in_memory;
 mod laws;
 mod look_texts;
+mod losses;
 mod mustplay_texts;
 mod openings;
 mod planning;
