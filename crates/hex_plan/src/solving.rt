@@ -35,8 +35,8 @@ pub(crate) struct Attempt {
 /// The plan by a certificate of who wins with `colour` to move, if one of at most [`MOST_LINES`]
 /// lines is found by entering at most `budget` positions; none is looked for with a budget of 0. If
 /// the player to move wins, it is a win by the cell of the claimed `move`, and none if no `move` is
-/// claimed; if the other player does, a search of a lost board with this threat, and its certificate
-/// is that of the loss.
+/// claimed; if the other player does, a search of a lost board with this threat, and its
+/// certificate is that of the loss.
 ///
 /// It refuses only if memory runs out. No clause says when one is found: a body that never answers
 /// a plan is proved.

@@ -24,8 +24,9 @@
 //! them on certificates. A line has no reason against it exactly if its rule of connection applies
 //! ([`lines_are_rules`]).
 //!
-//! **What is only tested, or not said.** That what [`draft_or`] makes is accepted. That calls get their memory; the time, which is linear in
-//! the text's length. What the derived texts of [`CertError`] are.
+//! **What is only tested, or not said.** That calls get their memory; the time, which is linear in
+//! the text's length. What the derived texts of [`CertError`] are. That what [`draft_or`] makes is
+//! accepted.
 //!
 //! **Limits.** [`MOST_LINES`] lines before the claim, in version 4 [`MOST_LATEST_LINES`], numbers
 //! up to [`MOST_NUMBER`], and [`MOST_CASES`] entries in an `or` or a `cases`;
