@@ -1,12 +1,12 @@
 #!/usr/bin/env python3
-"""hexd plays games against itself, and a second process checks each certificate of a win.
+"""hexd plays games against itself, and a second process checks each certificate.
 
     examples/selfplay.py [SIZE [PLAYOUTS [MOVES [FOLDER [WORD..]]]]]
 
 The size is 11 and the playouts are 10,000 if they aren't said. It plays to the end of the first game, or game after
-game in one session until so many MOVES were made. After each `genmove` it asks `wincert`: if the move was certified,
-the certificate is kept in FOLDER, or in one that is thrown away, and `bin/hexd check` has to say yes of it, for this
-board and this player. Further words go to hexd, as `--hsearch off`.
+game in one session until so many MOVES were made. After each `genmove` it asks `wincert`: if the move was certified, or
+the board is lost, the certificate is kept in FOLDER, or in one that is thrown away, and `bin/hexd check` has to say yes
+of it, for this board, and of a loss that the other player wins. Further words go to hexd, as `--hsearch off`.
 
 It prints each move, and then on standard error how many moves and certificates there were, how long a move took, and the
 memory that the session held after its first move and after its last. It ends with 1 if a certificate is refused.
@@ -43,14 +43,20 @@ def stones_of(picture):
     return found["B"], found["W"]
 
 
+def winner_of(certificate):
+    """The player that a certificate says wins."""
+    return certificate.splitlines()[2].removeprefix("player ")
+
+
 def fault_of(certificate, size, stones, colour):
-    """What is wrong with a certificate, if anything: its board or player, or that a second process refuses it."""
-    head = ["hexcert 1", f"size {size}", f"player {colour}"]
+    """What is wrong with a certificate, if anything: its board, or that a second process refuses it or what it claims."""
+    head = [f"size {size}", f"player {winner_of(certificate)}"]
     head += [" ".join([name, *cells]) for name, cells in zip(COLOURS, stones)]
-    if certificate.splitlines()[: len(head)] != head:
-        return "it is of another board or player"
+    if certificate.splitlines()[1 : 1 + len(head)] != head:
+        return "it is of another board"
     said = check(certificate.encode())
-    return None if said in ("yes full", "yes semi") else f"hexd check says {said!r}"
+    good = ("yes full", "yes semi") if winner_of(certificate) == colour else ("yes full",)
+    return None if said in good else f"hexd check says {said!r}"
 
 
 class Games:
@@ -72,12 +78,13 @@ class Games:
             print(f"{colour}: {move.text}")
             return False
         certificate = self.engine.ask("wincert")
-        print(f"{colour} {move.text}{', certified' if certificate.done else ''}")
-        if not certificate.done:
-            return True
-        self.certified += 1
         # An answer ends with one line feed less than the certificate has.
         text = certificate.text + "\n"
+        if not certificate.done:
+            print(f"{colour} {move.text}")
+            return True
+        print(f"{colour} {move.text}, {'certified' if winner_of(text) == colour else 'lost'}")
+        self.certified += 1
         (self.folder / f"{len(self.seconds)}.cert").write_text(text)
         fault = fault_of(text, self.size, stones, colour)
         if fault:
@@ -100,7 +107,7 @@ class Games:
         moves = len(self.seconds)
         print(
             f"{moves} moves, {sum(self.seconds) / moves:.3f} s each, {max(self.seconds):.3f} s the slowest",
-            f"{self.certified} of them certified, with a certificate that a second process accepts",
+            f"{self.certified} of them with a certificate that a second process accepts",
             f"memory: {self.memory[0]:.1f} MiB after the first move, {self.memory[-1]:.1f} MiB after the last",
             sep="\n",
             file=sys.stderr,

@@ -60,7 +60,7 @@ pub fn tell_plan(alloc: Global, last: &Option<TurnTexts>) -> Result<Answer, Memo
 
 /// `wincert`.
 /// Fails: `no certificate`.
-/// Answers the certificate of the last turn's win, without its last line feed.
+/// Answers the certificate of the last turn, of a win or of a loss, without its last line feed.
 pub fn tell_certificate(alloc: Global, last: &Option<TurnTexts>) -> Result<Answer, Memory>
     ensures { IfOk result (Tells
         (text_or Fail.NoCert (option_and_then (λ texts. texts.wincert) last.now))) }

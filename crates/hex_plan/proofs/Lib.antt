@@ -7,8 +7,8 @@
 --    and src/edges.rt here with EdgeNumbers (whether there is one), winning.rt with Middles (a semi
 --    entry between the edges follows over an empty cell, and the carrier of a full one has a cell),
 --    MiddleOf and WinningCells (the cell by which such an entry wins), collecting.rt with Collected
---    (the threats, by rising carriers), regions.rt (the mustplay region); specs/Planning.antt,
---    which only private clauses cite; proofs/PlanLaws and Allowing (the allowed cells are empty,
+--    (the threats, by rising carriers), regions.rt (the mustplay region), losses.rt (the certificate
+--    of a loss, which is checked); specs/Planning.antt, which only private clauses cite; proofs/PlanLaws and Allowing (the allowed cells are empty,
 --    and there is one).
 -- 3. Turns: src/turns.rt with proofs/Decides; their texts: src/texts.rt, report_texts.rt,
 --    mustplay_texts.rt with proofs/Rows and Lines.

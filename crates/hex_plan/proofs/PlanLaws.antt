@@ -24,7 +24,9 @@ use Rattle.hex_plan.specs.Good.{FollowsPlan, IsGood, IsLookedFor, IsSearchedFor,
 use Rattle.hex_plan.specs.Good.{IsTurnShape, looks_ahead}
 use Rattle.hex_plan.specs.Plans.{IsCertifiedWin, IsFoundPlan, IsFoundWin, IsPlanned, IsPlannedBy}
 use Rattle.hex_plan.specs.Plans.{IsPlannedFor, IsWinBy, IsWinningCell}
-use Rattle.hex_plan.specs.Turns.{TurnData, Decides, DecidesBy, IsDecided, IsSearchedBy}
+use Rattle.look_ahead.specs.Looked.{LookedData}
+use Rattle.hex_plan.specs.Turns.{TurnData, CanBeWritten, Decides, DecidesBy, IsDecided}
+use Rattle.hex_plan.specs.Turns.{IsSearchedBy, certificate_of}
 use Rattle.hex_plan.specs.declared.plans.Planned.{Planned}
 use Rattle.hex_plan.specs.declared.settings.Means.{Means}
 use Rattle.hex_plan.specs.declared.types.Plan.{Plan}
@@ -119,7 +121,9 @@ decided_by_win t means on h w l e =
     let writable = won_writable t.board t.player cert t.cell won in
     record {
       empty = won_empty t.board t.player cert t.cell on won;
-      decided = subst (λ (v : Plan). DecidesBy t v) (sym is) (l, e, refl, writable);
+      decided = subst (λ (v : Plan). DecidesBy t v) (sym is) (l, e, refl);
+      written = subst (λ (v : Plan). CanBeWritten (certificate_of v t.planned.loss)) (sym is)
+          writable;
     }
 
 pub good_win : (knobs : Knobs) (t : TurnData) (means : Means) → IsBoard t.board
@@ -145,6 +149,12 @@ decided_by_search t (Search threats allowed lost) tree e b p best h = λ other i
     let same : tree ≡ other = cc in
     subst (λ (z : ClosedTree). Decides t allowed z) same
     (record { board = b; player = p; allowed = h.1; chosen = h.0; best = best })
+
+-- the certificate beside a search is that of a loss, if there is one
+pub search_written : (plan : Plan) (loss : Option Cert) (looked : Option LookedData) (set : ℕ)
+    → IsSearchedBy plan looked set → CanBeWritten loss → CanBeWritten (certificate_of plan loss)
+search_written (Win cert cell) loss looked set h w = absurd h
+search_written (Search threats allowed lost) loss looked set h w = w
 
 pub follows_search : (knobs : Knobs) (means : Means) (t : TurnData) (plan : Plan)
     (tree : ClosedTree) → t.closed ≡ Some tree → IsSearchedBy plan t.looked tree.shape.allowed

@@ -137,13 +137,15 @@ twins knobs s t u m n c d one g h e f =
 -- what is said of two turns without connections, of one board and with one set of allowed cells
 same_texts : (t u : TurnData) (m n : ℕ) (c d : ClosedTree) → t.board ≡ u.board → m ≡ n
     → t.planned.plan ≡ Search [] m false → u.planned.plan ≡ Search [] n false
+    → t.planned.loss ≡ None → u.planned.loss ≡ None
     → t.looked ≡ None → u.looked ≡ None → t.closed ≡ Some c → u.closed ≡ Some d
     → c.shape ≡ d.shape → rows_of c.shape c.words ≡ rows_of d.shape d.words
     → texts_of t ≡ texts_of u
 unfolding report_of
-same_texts t u m n c d b a p q v w e f s r =
+same_texts t u m n c d b a p q x y v w e f s r =
     let size : t.board.size ≡ u.board.size = ap (λ (z : Position). z.size) b in
     let plan : t.planned.plan ≡ u.planned.plan = p ∙ ap (λ k. Search [] k false) a ∙ sym q in
+    let loss : t.planned.loss ≡ u.planned.loss = x ∙ sym y in
     let looked : t.looked ≡ u.looked = v ∙ sym w in
     let playouts : c.shape.knobs.playouts ≡ d.shape.knobs.playouts
     = ap (λ (z : Setting). z.knobs.playouts) s in
@@ -156,7 +158,7 @@ same_texts t u m n c d b a p q v w e f s r =
       report = report i;
       look = option_map (look_of (size i)) (looked i);
       mustplay = mustplay_of (size i) (plan i);
-      wincert = wincert_of (plan i);
+      wincert = wincert_of (plan i) (loss i);
     }
 
 -- with one worker the knobs, the board, the player and the number determine what a good turn plays
@@ -186,6 +188,6 @@ same_turn knobs means t u one off g h b p n =
       same.0,
       ap (option_map (λ (z : ClosedTree). rows_of z.shape z.words)) mine.tree.1 ∙ ap Some same.1
           ∙ ap (option_map (λ (z : ClosedTree). rows_of z.shape z.words)) (sym other.tree.1),
-      same_texts t u x y c d b cells mine.free.plan other.free.plan mine.unlooked other.unlooked
-          mine.tree.1 other.tree.1 shape same.1,
+      same_texts t u x y c d b cells mine.free.plan other.free.plan mine.free.loss other.free.loss
+          mine.unlooked other.unlooked mine.tree.1 other.tree.1 shape same.1,
     )

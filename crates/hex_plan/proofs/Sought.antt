@@ -1,12 +1,15 @@
 -- What is planned with a budget for certificates.
 use Rattle.std.proofs.Common.{◌≡◌, ◌⊎◌, ◌<◌, ◌≤◌, ℕ, Bool, true, inl, inr, zero, suc, arith}
-use Rattle.std.proofs.Common.{subst, sym}
+use Rattle.std.proofs.Common.{Option, Some, None, subst, sym}
 use Rattle.std.specs.Prelude.{IfOk, Ok, Err, Result, if◌then◌else◌}
 use Rattle.hex_cells.specs.declared.colours.Colour.{Colour}
 use Rattle.hex_board.specs.Positions.{Position}
-use Rattle.hex_plan.specs.Plans.{IsConnected, IsPlanned, IsPlannedFor, IsSolved}
+use Rattle.win_cert.specs.declared.certs.Cert.{Cert}
+use Rattle.hex_plan.specs.Plans.{IsConnected, IsLossOf, IsPlanned, IsPlannedFor, IsSolved}
+use Rattle.hex_plan.specs.Turns.{CanBeWritten}
 use Rattle.hex_plan.specs.declared.plans.Planned.{Planned}
 use Rattle.hex_plan.specs.declared.settings.Means.{Means}
+use Rattle.hex_plan.specs.declared.types.Plan.{Plan}
 
 -- whatever the budget, a plan may rest on connections
 sought : (solve : ℕ) (board : Position) (player : Colour) (p : Planned)
@@ -42,9 +45,31 @@ none_within most (Err e) h = tt
 pub if_planned : {E : Type 0} (means : Means) (board : Position) (player : Colour)
     (r : Result Planned E) → means.hsearch ≡ true
     → IfOk r (IsPlannedFor board player true means.solve)
-    → IfOk r (λ (p : Planned). p.entered ≤ means.solve) → IfOk r (IsPlanned board player means)
-if_planned means board player (Ok p) on h w = record {
+    → IfOk r (λ (p : Planned). p.entered ≤ means.solve)
+    → IfOk r (λ (p : Planned). IsLossOf board player p.plan p.loss)
+    → IfOk r (IsPlanned board player means)
+if_planned means board player (Ok p) on h w l = record {
   rests = subst (λ (b : Bool). IsPlannedFor board player b means.solve p) (sym on) h;
   within = subst (λ (b : Bool). p.entered ≤ (if b then means.solve else 0)) (sym on) w;
+  loss = l;
 }
-if_planned means board player (Err e) on h w = tt
+if_planned means board player (Err e) on h w l = tt
+
+-- where there is no certificate of a loss
+pub no_loss : {E : Type 0} (board : Position) (player : Colour) (r : Result Planned E)
+    → IfOk r (λ (p : Planned). p.loss ≡ None)
+    → IfOk r (λ (p : Planned). IsLossOf board player p.plan p.loss)
+no_loss board player (Ok p) h = subst (IsLossOf board player p.plan) (sym h) tt
+no_loss board player (Err e) h = tt
+
+-- a certificate of a loss can be written
+pub can_write : (board : Position) (player : Colour) (plan : Plan) (loss : Option Cert)
+    → IsLossOf board player plan loss → CanBeWritten loss
+can_write board player plan None h = tt
+can_write board player plan (Some cert) h = h.1.1.certifies.writable
+
+pub if_written : {E : Type 0} (board : Position) (player : Colour) (r : Result Planned E)
+    → IfOk r (λ (p : Planned). IsLossOf board player p.plan p.loss)
+    → IfOk r (λ (p : Planned). CanBeWritten p.loss)
+if_written board player (Ok p) h = can_write board player p.plan p.loss h
+if_written board player (Err e) h = tt

@@ -1,6 +1,6 @@
 -- What the calls say that make a plan. Only private clauses cite this.
 use Rattle.std.specs.Prelude.{◌≡◌, ℕ, ◌<◌, ◌≤◌, List}
-use Rattle.std.specs.Prelude.{Option, Some, MatchOption, length, slice_index}
+use Rattle.std.specs.Prelude.{Bool, true, IfSome, Option, Some, MatchOption, length, slice_index}
 use Rattle.std.specs.List.{slice_get}
 use Rattle.conn_store.specs.Stores.{StoreData}
 use Rattle.conn_store.specs.declared.entries.Entry.{Entry}
@@ -8,7 +8,8 @@ use Rattle.conn_store.specs.declared.entries.Held.{Held}
 use Rattle.win_cert.specs.Cuts.{CertifiesEntry, HasLinesFor, IsEdgeEntryAt}
 use Rattle.hex_cells.specs.declared.colours.Colour.{Colour}
 use Rattle.hex_board.specs.Positions.{Position}
-use Rattle.hex_plan.specs.Plans.{IsFoundPlan}
+use Rattle.win_cert.specs.declared.certs.Cert.{Cert}
+use Rattle.hex_plan.specs.Plans.{IsFoundPlan, IsLossOf, ShowsLoss}
 use Rattle.hex_plan.specs.declared.threats.Threat.{Threat}
 use Rattle.hex_plan.specs.declared.types.Plan.{Plan}
 
@@ -48,7 +49,15 @@ abbrev pub IsLeastOf : List Entry → Held → ℕ → ℕ → Option ℕ → Ty
 IsLeastOf entries h bound m best =
     MatchOption best (AreBelow entries h bound m) (HasLeast entries h bound m)
 
--- the budget is not 0, and the plan rests on a certificate that was found
-pub record IsFoundFor (board : Position) (player : Colour) (budget : ℕ) (plan : Plan) : Type 0 where
+-- the budget is not 0, and the plan rests on a certificate that was found, which is that of a loss
+-- too
+pub record IsFoundFor (board : Position) (player : Colour) (budget : ℕ) (plan : Plan)
+    (loss : Option Cert) : Type 0 where
   pub some : 0 < budget
   pub found : IsFoundPlan board player plan
+  pub shown : IsLossOf board player plan loss
+
+-- the certificate, if there is one, shows that the board is lost, and it is known to be
+abbrev pub IsLossWhere : Position → Colour → Bool → Option Cert → Type 0
+IsLossWhere board player lost loss =
+    IfSome loss (λ cert. (lost ≡ true) × ShowsLoss board player cert)

@@ -1,7 +1,7 @@
 -- What is planned before a search: a certified win, or the cells among which is searched.
 use Rattle.std.specs.Prelude.{◌≡◌, ◌<◌, ◌≤◌, ◌↔◌, ◌⊎◌, ℕ, Bool, true, false, zero, suc}
 use Rattle.std.specs.Prelude.{if◌then◌else◌}
-use Rattle.std.specs.Prelude.{List, [], ◌∷◌, Option, Some, None, All}
+use Rattle.std.specs.Prelude.{List, [], ◌∷◌, Option, Some, None, All, IfSome}
 use Rattle.std.specs.List.{slice_get}
 use Rattle.hex_cells.specs.Colours.{other_of}
 use Rattle.hex_cells.specs.Sets.{has}
@@ -127,6 +127,12 @@ pub record IsFoundThreat (board : Position) (player : Colour) (t : Threat) : Typ
   pub certifies : Certifies board player (other_of player) t.cert
   pub verdict : IsVerdict t.cert (Yes Full t.carrier)
 
+-- the certificate was found or made, and checked, and shows that the board is lost: with some
+-- carrier it is that of a threat that was found
+abbrev pub ShowsLoss : Position → Colour → Cert → Type 0
+ShowsLoss board player cert =
+    (carrier : ℕ) × IsFoundThreat board player (record { cert = cert; carrier = carrier })
+
 -- ---- plans
 
 -- no connections were looked for: there is no threat, and all empty cells are allowed
@@ -136,6 +142,7 @@ pub record IsFree (board : Position) (p : Planned) : Type 0 where
   pub empties : HasEmpties allowed board
   pub own : p.own ≡ None
   pub other : p.other ≡ None
+  pub loss : p.loss ≡ None
 
 -- connections were looked for: a win by the own report, or a search by the reports of both
 abbrev pub IsPlannedBy : Position → Colour → Plan → Option StoreData → Option StoreData → Type 0
@@ -174,6 +181,16 @@ IsPlannedFor board player true zero p = IsConnected board player p
 IsPlannedFor board player true (suc less) p =
     IsConnected board player p ⊎ IsSolved board player p
 
+-- the plan is a search of a lost board
+abbrev pub IsLost : Plan → Type 0
+IsLost (Win cert cell) = ⊥
+IsLost (Search threats allowed lost) = lost ≡ true
+
+-- a certificate of a loss, if there is one, stands beside the plan of a lost board alone, and shows
+-- that it is lost
+abbrev pub IsLossOf : Position → Colour → Plan → Option Cert → Type 0
+IsLossOf board player plan loss = IfSome loss (λ cert. IsLost plan × ShowsLoss board player cert)
+
 -- how many positions the solver may enter with these means: none if no connections are looked for
 abbrev pub most_entered : Means → ℕ
 most_entered means = if means.hsearch then means.solve else 0
@@ -184,6 +201,7 @@ pub record IsPlanned (board : Position) (player : Colour) (means : Means)
     (p : Planned) : Type 0 where
   pub rests : IsPlannedFor board player means.hsearch means.solve p
   pub within : p.entered ≤ most_entered means
+  pub loss : IsLossOf board player p.plan p.loss
 
 -- the plan is a win
 abbrev pub IsWin : Plan → Type 0

@@ -13,7 +13,8 @@ use Rattle.look_ahead.specs.declared.rows.Outcome.TheVariants.{Won, Lost}
 use Rattle.tree_words.specs.Roots.{rows_of}
 use Rattle.tree_words.specs.declared.roots.Row.{Row}
 use Rattle.win_cert.specs.Texts.{cert_text}
-use Rattle.hex_plan.specs.Turns.{TurnData}
+use Rattle.win_cert.specs.declared.certs.Cert.{Cert}
+use Rattle.hex_plan.specs.Turns.{TurnData, certificate_of}
 use Rattle.hex_plan.specs.declared.threats.Threat.{Threat}
 use Rattle.hex_plan.specs.declared.types.Plan.{Plan}
 use Rattle.hex_plan.specs.declared.types.Plan.TheVariants.{Win, Search}
@@ -66,10 +67,13 @@ mustplay_of size (Search threats allowed lost) =
     codes "lost " ++ (if lost then codes "yes" else codes "no")
     ++ codes "\nallowed" ++ spaced_vertices size allowed ++ flat_map (threat_line size) threats
 
--- the certificate of a win, without its last line feed
-abbrev pub wincert_of : Plan → Option (List ℕ)
-wincert_of (Win cert cell) = Some (take (length (cert_text cert) - 1) (cert_text cert))
-wincert_of (Search threats allowed lost) = None
+-- the text of a certificate, without its last line feed
+abbrev pub cert_body : Cert → List ℕ
+cert_body cert = take (length (cert_text cert) - 1) (cert_text cert)
+
+-- of a win its certificate, of a search that of a loss, if there is one
+abbrev pub wincert_of : Plan → Option Cert → Option (List ℕ)
+wincert_of plan loss = option_map cert_body (certificate_of plan loss)
 
 -- who wins after a stone, if that is known
 abbrev pub outcome_text : Option Outcome → List ℕ
@@ -99,8 +103,8 @@ abbrev pub look_of : ℕ → LookedData → List ℕ
 look_of size looked =
     codes "nodes " ++ decimal looked.nodes ++ flat_map (look_line size) looked.rows
 
--- what the four commands say of a turn; of a win there is no report, of a search no certificate,
--- and of a turn without a look-ahead nothing of one
+-- what the four commands say of a turn; of a win there is no report, of a search a certificate only
+-- if it has one of a loss, and of a turn without a look-ahead nothing of one
 pub record TurnTextsData : Type 0 where
   pub report : Option (List ℕ)
   pub look : Option (List ℕ)
@@ -112,5 +116,5 @@ texts_of t = record {
   report = report_of t;
   look = option_map (look_of t.board.size) t.looked;
   mustplay = mustplay_of t.board.size t.planned.plan;
-  wincert = wincert_of t.planned.plan;
+  wincert = wincert_of t.planned.plan t.planned.loss;
 }

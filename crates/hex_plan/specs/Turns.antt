@@ -1,5 +1,5 @@
 -- Turns as plain data.
-use Rattle.std.specs.Prelude.{◌≡◌, ℕ, true, None, Some}
+use Rattle.std.specs.Prelude.{◌≡◌, ℕ, true, None, Some, IfSome}
 use Rattle.std.specs.Option.{ForSome}
 use Rattle.std.specs.declared.option.Option.{Option}
 use Rattle.hex_cells.specs.Sets.{has, with_cell}
@@ -9,9 +9,15 @@ use Rattle.tree_words.specs.Closing.{ClosedTree}
 use Rattle.tree_words.specs.Roots.{IsBest}
 use Rattle.look_ahead.specs.Looked.{IsLookOf, LookedData}
 use Rattle.win_cert.specs.Writable.{IsWritable}
+use Rattle.win_cert.specs.declared.certs.Cert.{Cert}
 use Rattle.hex_plan.specs.declared.types.Plan.{Plan}
 use Rattle.hex_plan.specs.declared.types.Plan.TheVariants.{Win, Search}
 use Rattle.hex_plan.specs.declared.plans.Planned.{Planned}
+
+-- the certificate of a win, or beside a search that of a loss, if there is one
+abbrev pub certificate_of : Plan → Option Cert → Option Cert
+certificate_of (Win cert cell) loss = Some cert
+certificate_of (Search threats allowed lost) loss = loss
 
 -- a turn, as a value: the board, the player to move there, the turn's number, what was planned,
 -- what the look-ahead found, if there was one, the tree that was searched for it, if one was, and
@@ -81,14 +87,18 @@ pub record Decides (t : TurnData) (cells : ℕ) (closed : ClosedTree) : Type 0 w
   pub chosen : ChoseAmong cells t.looked
   pub best : IsBest closed.shape closed.words t.cell
 
--- the plan decides the turn: a win by its cell, and its certificate can be written; a search by its
--- tree
+-- the plan decides the turn: a win by its cell, a search by its tree
 abbrev pub DecidesBy : TurnData → Plan → Type 0
-DecidesBy t (Win cert cell) =
-    (t.looked ≡ None) × (t.closed ≡ None) × (t.cell ≡ cell) × IsWritable cert
+DecidesBy t (Win cert cell) = (t.looked ≡ None) × (t.closed ≡ None) × (t.cell ≡ cell)
 DecidesBy t (Search threats allowed lost) = ForSome t.closed (Decides t allowed)
 
--- what holds of each turn: its cell is empty, and its plan decides it
+-- the certificate, if there is one, can be written
+abbrev pub CanBeWritten : Option Cert → Type 0
+CanBeWritten cert = IfSome cert IsWritable
+
+-- what holds of each turn: its cell is empty, its plan decides it, and its certificate can be
+-- written
 pub record IsDecided (t : TurnData) : Type 0 where
   pub empty : is_empty_at t.board t.cell ≡ true
   pub decided : DecidesBy t t.planned.plan
+  pub written : CanBeWritten (certificate_of t.planned.plan t.planned.loss)

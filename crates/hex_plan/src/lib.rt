@@ -34,6 +34,8 @@
 //!   it is a search: among the cells that lie in the carrier of each semi entry of the other player
 //!   between his edges, or, if there is none such and the board is lost, among all empty cells.
 //! - Each certificate is accepted, and has the kind and the carrier of its entry.
+//! - Beside the plan of a lost board may stand a certificate of that: it is accepted, is the other
+//!   player's, and claims that he wins whoever places first. Beside no other plan stands one.
 //! - After the cell of a win its player wins against every reply ([`certified_moves_win`]). Each
 //!   move outside the carrier of a threat loses ([`moves_outside_a_threat_lose`]), and each move on
 //!   a lost board ([`lost_boards_lose`]). So it is of each plan, also without a turn
@@ -50,7 +52,8 @@
 //!   [`NoArchive`] never.
 //!
 //! **What is only tested, or not said.** That [`plan`], [`turn_texts`] and `MemArchive::make` get
-//! their memory; which entry a certificate is cut from if several would serve; that a report
+//! their memory; which entry a certificate is cut from if several would serve; that beside each
+//! plan of a lost board a certificate of it stands (tools/check_lost tries that); that a report
 //! has a connection that exists; that a certificate is found, and that each position is counted;
 //! what becomes of turns in [`NoArchive`].
 //!
@@ -70,6 +73,11 @@
 //!   entry, `IsFoundThreat` to the verdict of the checker.
 //! - A certificate that was found wins by its claimed line, a `move`: the board of this line's
 //!   scope is that with the stone. If it claims another line the plan rests on connections.
+//! - The certificate of a loss is made, then checked, so nothing is proved of how it is made. It is
+//!   cut from a full entry between the edges if there is one: of two or three threats that have no
+//!   cell in common the report makes one. Else it is an `or` of the threats that are needed. It is
+//!   made of lost boards alone, so other moves pay nothing. Of a board that the solver shows to be
+//!   lost it is a copy of the threat's, so that texts need not know where it came from.
 //! - What the look-ahead found stands in the turn, so that a tree's cells are known from the turn:
 //!   the allowed ones, or the one that was chosen.
 //! - Threats are one for each carrier. Two semi entries of one pair never have one carrier, but no
@@ -87,6 +95,7 @@ mod edges;
 mod in_memory;
 mod laws;
 mod look_texts;
+mod losses;
 mod mustplay_texts;
 mod openings;
 mod planning;

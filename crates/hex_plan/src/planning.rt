@@ -6,18 +6,20 @@ ghost use Rattle.hex_board.specs.Positions.{is_empty_at};
 ghost use Rattle.hsearch.specs.Closed.{IsReportOf};
 ghost use Rattle.hex_plan.specs.Planning.{IsFoundFor};
 ghost use Rattle.hex_plan.specs.Plans.{AllowsEmpties, IsConnected, IsEdgeEntry, IsFree, IsPlanned};
-ghost use Rattle.hex_plan.specs.Plans.{IsPlannedFor};
+ghost use Rattle.hex_plan.specs.Plans.{IsLossOf, IsPlannedFor};
+ghost use Rattle.hex_plan.specs.Turns.{CanBeWritten};
 ghost use Rattle.hex_board.specs.Elements.{are_joined};
 ghost use Rattle.win_cert.specs.Cuts.{HasEdgeEntryAt};
 ghost use Rattle.conn_store.specs.declared.entries.Entry.{Entry};
 
 use super::collecting::threats_of;
 use super::edges::edge_entry;
+use super::losses::loss_where;
 use super::plans::Planned;
 use super::refusals::Memory;
 use super::regions::{empties_of, mustplay_region};
 use super::settings::Means;
-use super::solving::{Attempt, found_plan};
+use super::solving::{Attempt, FoundPlan, found_plan};
 use super::threats::Threats;
 use super::types::Plan;
 use super::winning::winning_cell;
@@ -35,7 +37,8 @@ use win_cert::cut;
 /// wins is looked for by entering at most `solve` positions. If the player does, the plan is a win
 /// by it; if the other one does, a search among all empty cells of a lost board. Else it is a
 /// search among the empty cells that lie in the carrier of each threat of the other player. The
-/// plan tells how many positions were entered.
+/// plan tells how many positions were entered. Beside the plan of a lost board stands a certificate
+/// of that, if what was made of the threats is accepted.
 ///
 /// It refuses only if memory runs out.
 pub fn plan(alloc: Global, board: &Board, colour: Colour, means: Means) -> Result<Planned, Memory>
@@ -43,6 +46,7 @@ pub fn plan(alloc: Global, board: &Board, colour: Colour, means: Means) -> Resul
     requires room { (k : ℕ) × (is_empty_at board.now k ≡ true) }
     ensures planned { IfOk result (IsPlanned board.now colour means) }
     ensures allowed { IfOk result (λ planned. AllowsEmpties board.now planned.plan) }
+    ensures written { IfOk result (λ planned. CanBeWritten planned.loss) }
 {
     if !means.hsearch {
         return Ok(free_plan(alloc, board));
@@ -68,14 +72,16 @@ fn unjoined_plan(
     requires unjoined { (a : Entry) → ¬ (IsEdgeEntry own a) }
     ensures planned { IfOk result (IsPlannedFor board.now colour true solve) }
     ensures within { IfOk result (λ planned. planned.entered ≤ solve) }
+    ensures loss { IfOk result (λ planned. IsLossOf board.now colour planned.plan planned.loss) }
 {
     let Attempt { plan, entered } = found_plan(alloc, board, colour, solve)?;
     match plan {
         None => search_plan(alloc, board, colour, own, entered),
-        Some(plan) => Ok(Planned {
+        Some(FoundPlan { plan, loss }) => Ok(Planned {
             plan,
             own: Some(own),
             other: None,
+            loss,
             entered,
         }),
     }
@@ -85,6 +91,7 @@ fn unjoined_plan(
 fn free_plan(alloc: Global, board: &Board) -> Planned
     ensures free { IsFree board.now result }
     ensures none { result.entered ≡ 0 }
+    ensures loss { result.loss ≡ None }
 {
     Planned {
         plan: Plan::Search {
@@ -94,6 +101,7 @@ fn free_plan(alloc: Global, board: &Board) -> Planned
         },
         own: None,
         other: None,
+        loss: None,
         entered: 0,
     }
 }
@@ -104,6 +112,7 @@ fn win_plan(alloc: Global, own: Report, number: u32) -> Result<Planned, Memory>
     requires entry { HasEdgeEntryAt own number }
     ensures connected { IfOk result (IsConnected own.elements.board own.elements.player) }
     ensures none { IfOk result (λ planned. planned.entered ≡ 0) }
+    ensures loss { IfOk result (λ planned. planned.loss ≡ None) }
 {
     let cert = cut(alloc, &own, number)?;
     let cell = winning_cell(&own, number);
@@ -112,6 +121,7 @@ fn win_plan(alloc: Global, own: Report, number: u32) -> Result<Planned, Memory>
         plan: Plan::Win { cert, cell },
         own: Some(own),
         other: None,
+        loss: None,
         entered: 0,
     })
 }
@@ -130,10 +140,12 @@ fn search_plan(
     requires unjoined { (a : Entry) → ¬ (IsEdgeEntry own a) }
     ensures connected { IfOk result (IsConnected board.now colour) }
     ensures same { IfOk result (λ planned. planned.entered ≡ entered) }
+    ensures loss { IfOk result (λ planned. IsLossOf board.now colour planned.plan planned.loss) }
 {
     let other = connect(alloc, board, colour.other())?;
     let threats = threats_of(alloc, &other)?;
     let region = mustplay_region(board, threats.as_slice());
+    let loss = loss_where(alloc, region.lost, board, colour, &other)?;
     Ok(Planned {
         plan: Plan::Search {
             threats,
@@ -142,6 +154,7 @@ fn search_plan(
         },
         own: Some(own),
         other: Some(other),
+        loss,
         entered,
     })
 }

@@ -1,11 +1,13 @@
 //! Plans, with the reports that they rest on.
 
-ghost use Rattle.std.specs.Prelude.{◌↔◌, IfSome, IsNone};
+ghost use Rattle.std.specs.Prelude.{◌≡◌, ◌↔◌, IfSome, IsNone, option_map};
 ghost use Rattle.hex_plan.specs.Plans.{IsSearchAmong, IsWin};
+ghost use Rattle.hex_plan.specs.Turns.{certificate_of};
 
 use super::types::Plan;
 use hex_cells::CellSet;
 use hsearch::Report;
+use win_cert::Cert;
 
 /// A plan, and the reports that it rests on: of a win the player's own one, of a search his and
 /// that of the other player, and none if no connections were looked for. With it stands how many
@@ -15,6 +17,9 @@ pub struct Planned {
     pub plan: Plan,
     pub own: Option<Report>,
     pub other: Option<Report>,
+    /// Of a lost board a certificate that it is, if one was made: the other player wins whoever
+    /// places first.
+    pub loss: Option<Cert>,
     /// How many positions the solver entered, whatever it found; 0 if it was not asked.
     pub entered: u64,
 }
@@ -28,6 +33,17 @@ impl Planned {
         match self.plan {
             Plan::Win { .. } => None,
             Plan::Search { allowed, .. } => Some(allowed),
+        }
+    }
+
+    /// The certificate of a win, or beside a search that of a loss, if there is one.
+    pub fn certificate(&self) -> Option<&Cert>
+        ensures { option_map (λ cert. cert.now) result
+            ≡ certificate_of self.now.plan self.now.loss }
+    {
+        match &self.plan {
+            Plan::Win { cert, .. } => Some(cert),
+            Plan::Search { .. } => self.loss.as_ref(),
         }
     }
 }

@@ -1,9 +1,9 @@
 //! Plans by certificates that are found.
 
-ghost use Rattle.std.specs.Prelude.{◌≡◌, ◌≢◌, ◌≤◌, ◌∷◌, [], IfOk, IfSome};
+ghost use Rattle.std.specs.Prelude.{◌≡◌, ◌≢◌, ◌≤◌, ◌∷◌, [], IfOk, IfSome, None};
 ghost use Rattle.hex_found.specs.Found.{IsFound};
 ghost use Rattle.hex_plan.specs.Planning.{IsFoundFor};
-ghost use Rattle.hex_plan.specs.Plans.{IsFoundPlan};
+ghost use Rattle.hex_plan.specs.Plans.{IsFoundPlan, IsLossOf};
 
 use super::refusals::Memory;
 use super::regions::empties_of;
@@ -13,13 +13,21 @@ use hex_board::Board;
 use hex_cells::Colour;
 use hex_found::{Findings, Found, find};
 use std::alloc::Global;
-use win_cert::{MOST_LINES, claimed_move};
+use win_cert::{Cert, MOST_LINES, claimed_move, copy};
+
+/// A plan by a certificate that was found.
+#[derive(Drop)]
+pub(crate) struct FoundPlan {
+    pub plan: Plan,
+    /// The certificate, if it is one of a loss.
+    pub loss: Option<Cert>,
+}
 
 /// What came of asking the solver for a plan.
 #[derive(Drop)]
 pub(crate) struct Attempt {
     /// The plan by a certificate, if one was found.
-    pub plan: Option<Plan>,
+    pub plan: Option<FoundPlan>,
     /// How many positions were entered.
     pub entered: u64,
 }
@@ -27,7 +35,8 @@ pub(crate) struct Attempt {
 /// The plan by a certificate of who wins with `colour` to move, if one of at most [`MOST_LINES`]
 /// lines is found by entering at most `budget` positions; none is looked for with a budget of 0. If
 /// the player to move wins, it is a win by the cell of the claimed `move`, and none if no `move` is
-/// claimed; if the other player does, a search of a lost board with this threat.
+/// claimed; if the other player does, a search of a lost board with this threat, and its
+/// certificate is that of the loss.
 ///
 /// It refuses only if memory runs out. No clause says when one is found: a body that never answers
 /// a plan is proved.
@@ -37,7 +46,8 @@ pub(crate) fn found_plan(
     colour: Colour,
     budget: u32,
 ) -> Result<Attempt, Memory>
-    ensures found { IfOk result (λ r. IfSome r.plan (IsFoundFor board.now colour budget)) }
+    ensures found { IfOk result (λ r. IfSome r.plan
+        (λ found. IsFoundFor board.now colour budget found.plan found.loss)) }
     ensures within { IfOk result (λ r. r.entered ≤ budget) }
 {
     if budget == 0 {
@@ -57,9 +67,11 @@ fn plan_by(
     found: Option<Found>,
     board: &Board,
     colour: Colour,
-) -> Result<Option<Plan>, Memory>
+) -> Result<Option<FoundPlan>, Memory>
     requires { IfSome found (IsFound board.now colour) }
-    ensures { IfOk result (λ plan. IfSome plan (IsFoundPlan board.now colour)) }
+    ensures plan { IfOk result (λ f. IfSome f (λ found. IsFoundPlan board.now colour found.plan)) }
+    ensures loss { IfOk result
+        (λ f. IfSome f (λ found. IsLossOf board.now colour found.plan found.loss)) }
 {
     match found {
         None => Ok(None),
@@ -69,30 +81,44 @@ fn plan_by(
 }
 
 // The win by a certificate of the player to move that was found, if it claims a `move`.
-fn win_by(found: Found, board: &Board, colour: Colour) -> Option<Plan>
+fn win_by(found: Found, board: &Board, colour: Colour) -> Option<FoundPlan>
     requires found { IsFound board.now colour found }
     requires player { found.cert.player ≡ colour }
-    ensures { IfSome result (IsFoundPlan board.now colour) }
+    ensures plan { IfSome result (λ found. IsFoundPlan board.now colour found.plan) }
+    ensures loss { IfSome result (λ found. found.loss ≡ None) }
 {
     let cert = found.cert;
     match claimed_move(&cert) {
-        Some(cell) => Some(Plan::Win { cert, cell }),
+        Some(cell) => Some(FoundPlan {
+            plan: Plan::Win { cert, cell },
+            loss: None,
+        }),
         None => None,
     }
 }
 
 // The search of a board that is lost by a certificate of the other player that was found.
-fn loss_by(alloc: Global, found: Found, board: &Board, colour: Colour) -> Result<Plan, Memory>
+fn loss_by(
+    alloc: Global,
+    found: Found,
+    board: &Board,
+    colour: Colour,
+) -> Result<FoundPlan, Memory>
     requires found { IsFound board.now colour found }
     requires player { found.cert.player ≢ colour }
-    ensures { IfOk result (IsFoundPlan board.now colour) }
+    ensures plan { IfOk result (λ found. IsFoundPlan board.now colour found.plan) }
+    ensures loss { IfOk result (λ found. IsLossOf board.now colour found.plan found.loss) }
 {
     let Found { cert, carrier } = found;
+    let loss = copy(alloc, &cert)?;
     let threats = one_threat(alloc, Threat { cert, carrier })?;
-    Ok(Plan::Search {
-        threats,
-        allowed: empties_of(board),
-        lost: true,
+    Ok(FoundPlan {
+        plan: Plan::Search {
+            threats,
+            allowed: empties_of(board),
+            lost: true,
+        },
+        loss: Some(loss),
     })
 }
 

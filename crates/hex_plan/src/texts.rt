@@ -1,8 +1,8 @@
 //! What the commands `search-report`, `look-report`, `mustplay` and `wincert` say of a turn.
 
-ghost use Rattle.std.specs.Prelude.{◌≡◌, ◌-◌, IfOk, length, option_map, take};
-ghost use Rattle.hex_plan.specs.TurnTexts.{look_of, mustplay_of, texts_of, wincert_of};
-ghost use Rattle.win_cert.specs.Texts.{cert_text};
+ghost use Rattle.std.specs.Prelude.{◌≡◌, IfOk, option_map};
+ghost use Rattle.hex_plan.specs.TurnTexts.{cert_body, look_of, mustplay_of, texts_of};
+ghost use Rattle.hex_plan.specs.TurnTexts.{wincert_of};
 ghost use Rattle.win_cert.specs.Writable.{IsWritable};
 
 use super::look_texts::look_text;
@@ -66,8 +66,8 @@ impl TurnTexts {
         &self.mustplay
     }
 
-    /// The certificate of a win, without its last line feed; `None` exactly if the plan is a
-    /// search.
+    /// The certificate of a win or of a loss, without its last line feed; `None` exactly if the
+    /// plan is a search and none of a loss stands beside it.
     pub fn wincert(&self) -> Option<&[u8]>
         ensures { option_map (λ text. text.now) result ≡ self.now.wincert }
     {
@@ -121,22 +121,22 @@ fn mustplay_text(alloc: Global, turn: &Turn) -> Result<Vec<u8>, AllocError>
     }
 }
 
-// The certificate of a win, without its last line feed.
+// The certificate of a win or of a loss, if there is one, without its last line feed.
 fn wincert_text(alloc: Global, turn: &Turn) -> Result<Option<Vec<u8>>, AllocError>
     ensures { IfOk result
-        (λ text. option_map (λ t. t.items) text ≡ wincert_of turn.now.planned.plan) }
+        (λ text. option_map (λ t. t.items) text
+        ≡ wincert_of turn.now.planned.plan turn.now.planned.loss) }
 {
-    match &turn.planned().plan {
-        Plan::Win { cert, .. } => Ok(Some(cert_body(alloc, cert)?)),
-        Plan::Search { .. } => Ok(None),
+    match turn.planned().certificate() {
+        Some(cert) => Ok(Some(cert_body(alloc, cert)?)),
+        None => Ok(None),
     }
 }
 
 // The text of a certificate, without its last line feed.
 fn cert_body(alloc: Global, cert: &Cert) -> Result<Vec<u8>, AllocError>
     requires { IsWritable cert.now }
-    ensures { IfOk result (λ text. text.items
-        ≡ take (length (cert_text cert.now) - 1) (cert_text cert.now)) }
+    ensures { IfOk result (λ text. text.items ≡ cert_body cert.now) }
 {
     let Ok(text) = write(alloc, cert) else {
         return Err(AllocError);

@@ -8,7 +8,8 @@ ghost use Rattle.tree_words.specs.Roots.{IsBest};
 ghost use Rattle.tree_words.specs.Settings.{IsSetting};
 ghost use Rattle.hex_plan.specs.Good.{IsGoodAsPlanned, IsGoodAsSearched};
 ghost use Rattle.hex_plan.specs.Plans.{IsPlanned, IsWin, IsWinBy};
-ghost use Rattle.hex_plan.specs.Turns.{DecidesBy, IsSearchedBy, turn_of_search, turn_of_win};
+ghost use Rattle.hex_plan.specs.Turns.{CanBeWritten, IsSearchedBy, certificate_of};
+ghost use Rattle.hex_plan.specs.Turns.{turn_of_search, turn_of_win};
 ghost use Rattle.hex_plan.specs.declared.settings.Means.{Means};
 
 use super::plans::Planned;
@@ -111,7 +112,8 @@ impl Turn {
     /// the plan is a search and the tree's cells are those that are searched then: its board and
     /// player are those of the tree, and its cell is the tree's best.
     pub fn searched(closed: Closed, number: u64, planned: Planned, looked: Option<Looked>) -> Turn
-        requires { IsSearchedBy planned.plan looked closed.shape.allowed }
+        requires searched { IsSearchedBy planned.plan looked closed.shape.allowed }
+        requires written { CanBeWritten planned.loss }
         ensures parts { result ≡ turn_of_search closed number planned looked result.cell }
         ensures best { IsBest closed.shape closed.words result.cell }
         ensures empty { is_empty_at closed.shape.board result.cell ≡ true }
@@ -156,7 +158,7 @@ impl Turn {
     /// What was planned.
     pub fn planned(&self) -> &Planned
         ensures value { result.now ≡ self.now.planned }
-        ensures decided { DecidesBy self.now self.now.planned.plan }
+        ensures written { CanBeWritten (certificate_of result.now.plan result.now.loss) }
     {
         &self.planned
     }

@@ -77,7 +77,7 @@ fn planned(alloc: Global, board: &Board, means: Means) -> Result<Planned, Fail> 
     Ok(planned)
 }
 
-// After Black's d1 five positions show that White loses.
+// After Black's d1 five positions show that White loses; then there is a certificate of the loss.
 #[test]
 fn plan_tells_how_many_positions_it_took(rt: HostRuntime) -> Result<(), Fail> {
     let size = Size::of(4).ok_or("a size")?;
@@ -98,6 +98,8 @@ fn plan_tells_how_many_positions_it_took(rt: HostRuntime) -> Result<(), Fail> {
         };
         let planned = planned(rt.alloc(), &board, means)?;
         assert_eq!(rt; planned.entered, entered, "{hsearch} {solve}");
+        let has_loss = planned.loss.is_some();
+        assert_eq!(rt; has_loss, hsearch && 5 <= solve, "{hsearch} {solve}");
     }
     Ok(())
 }

@@ -58,6 +58,7 @@ fn one_playout(alloc: Global) -> Result<Turn, Fail> {
         },
         own: None,
         other: None,
+        loss: None,
         entered: 0,
     };
     Ok(Turn::searched(closed, 0, planned, None))

@@ -10,7 +10,7 @@ ghost use Rattle.tree_words.specs.Trees.{IsTreeOf};
 ghost use Rattle.sim_run.specs.BetweenSteps.{EndsSchedule};
 ghost use Rattle.hex_plan.specs.Good.{IsTurnShape, no_means};
 ghost use Rattle.hex_plan.specs.Plans.{IsPlanned};
-ghost use Rattle.hex_plan.specs.Turns.{IsSearchedBy};
+ghost use Rattle.hex_plan.specs.Turns.{CanBeWritten, IsSearchedBy};
 ghost use Rattle.turn_modes.specs.OneTurn.{FollowsSchedule, IsFirstTurn, MakesFirstTurn};
 
 use super::options::ModeOptions;
@@ -41,6 +41,7 @@ fn prepare(alloc: Global, board: &Board, colour: Colour, knobs: &Knobs) -> Resul
     requires ranges { AreInRange knobs.now }
     ensures planned { IfOk result (λ p. IsPlanned board.now colour no_means p.planned) }
     ensures among { IfOk result (λ p. IsSearchedBy p.planned.plan None p.shape.allowed) }
+    ensures written { IfOk result (λ p. CanBeWritten p.planned.loss) }
     ensures shape { IfOk result
         (λ p. IsTurnShape knobs.now board.now colour 0 p.shape.allowed p.shape) }
 {
@@ -54,7 +55,8 @@ fn prepare(alloc: Global, board: &Board, colour: Colour, knobs: &Knobs) -> Resul
 
 // The turn of this tree, which was searched as prepared.
 fn decide(planned: Planned, closed: Closed) -> Turn
-    requires { IsSearchedBy planned.plan None closed.shape.allowed }
+    requires searched { IsSearchedBy planned.plan None closed.shape.allowed }
+    requires written { CanBeWritten planned.loss }
     ensures closed { result.closed ≡ Some closed }
     ensures first { MakesFirstTurn planned closed result }
 {

@@ -10,9 +10,11 @@ use Rattle.conn_store.specs.declared.entries.Cause.TheVariants.{Adjacent, AndGro
 use Rattle.conn_store.specs.declared.entries.Entry.{Entry}
 use Rattle.conn_store.specs.declared.entries.Held.{Held}
 use Rattle.conn_store.specs.declared.entries.Kind.{Kind}
+use Rattle.conn_store.specs.declared.entries.Kind.TheVariants.{Full}
 use Rattle.win_cert.specs.Entries.{ScopedEntry, entries_below}
 use Rattle.win_cert.specs.Verdicts.{IsVerdict}
 use Rattle.win_cert.specs.declared.verdicts.Verdict.TheVariants.{Yes}
+use Rattle.win_cert.specs.Versions.{version_for}
 use Rattle.win_cert.specs.Writable.{IsWritable}
 use Rattle.win_cert.specs.declared.certs.Cert.{Cert}
 use Rattle.win_cert.specs.declared.certs.TheConstants.{FIRST_VERSION}
@@ -45,6 +47,14 @@ pub record CertifiesEntry (d : StoreData) (a : Entry) (cert : Cert) : Type 0 whe
 -- the certificate shows entry n of the store
 abbrev pub CertifiesEntryAt : StoreData → ℕ → Cert → Type 0
 CertifiesEntryAt d n cert = (a : Entry) → IsEdgeEntryAt d n a → CertifiesEntry d a cert
+
+-- the certificate has the version that its lines need, is one on the store's board, for its player,
+-- and claims that he wins whoever places first
+pub record IsDraftOf (d : StoreData) (cert : Cert) : Type 0 where
+  pub version : cert.version ≡ version_for cert.lines
+  pub board : cert.board ≡ d.elements.board
+  pub player : cert.player ≡ d.elements.player
+  pub claim : cert.claim ≡ Full
 
 -- ---- the entries on which an entry rests
 

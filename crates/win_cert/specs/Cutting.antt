@@ -38,6 +38,24 @@ IsClosedFrom entries marks i =
 abbrev pub AreInside : List Bool → (ℕ → Bool) → Type 0
 AreInside marks set = (i : ℕ) → is_marked marks i ≡ true → set i ≡ true
 
+-- the set has with each entry its premises
+abbrev pub HasPremises : List Entry → (ℕ → Bool) → Type 0
+HasPremises entries set = (i : ℕ) (a : Entry) → set i ≡ true → slice_get entries i ≡ Some a
+    → All (λ j. set j ≡ true) (premises a.cause)
+
+-- each mark, and with each marked entry its premises; the marked entries are in each set that has
+-- the old ones, and with each entry its premises
+pub record IsClosureOf (entries : List Entry) (old new : List Bool) : Type 0 where
+  pub number : length new ≡ length entries
+  pub kept : (i : ℕ) → is_marked old i ≡ true → is_marked new i ≡ true
+  pub closed : IsClosedFrom entries new 0
+  pub least : (set : ℕ → Bool) → HasPremises entries set → AreInside old set → AreInside new set
+
+-- with each marked entry its premises are marked
+pub record AreAllMarked (entries : List Entry) (marks : List Bool) : Type 0 where
+  pub number : length marks ≡ length entries
+  pub closed : IsClosedFrom entries marks 0
+
 -- the marked entries are in each set that has entry n, and with each entry its premises
 abbrev pub AreLeast : List Entry → ℕ → List Bool → Type 0
 AreLeast entries n marks = (set : ℕ → Bool) → IsClosedSet entries n set → AreInside marks set

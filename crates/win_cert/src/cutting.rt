@@ -39,9 +39,9 @@ pub fn cut(alloc: Global, report: &Report, entry: u32) -> Result<Cert, Memory>
     })
 }
 
-// The lines of the marked entries, in the store's order, and for each entry the number of its line,
-// or of the next line if it has none.
-fn lines_for(
+/// The lines of the marked entries, in the store's order, and for each entry the number of its
+/// line, or of the next line if it has none.
+pub(crate) fn lines_for(
     alloc: Global,
     store: &Store,
     marks: &[bool],

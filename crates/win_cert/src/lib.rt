@@ -8,8 +8,10 @@
 //! claim and the carrier of its entry, or the first line with a reason against it and that reason.
 //!
 //! **A caller** reads a text ([`read`]), writes one ([`write`], if [`is_writable`]), raises a
-//! certificate to version 2 ([`raise`]) and cuts one from a report ([`cut`], of an entry that
-//! [`edge_numbers`] names). [`version_for`] is the version that lines need.
+//! certificate to version 2 ([`raise`]), copies one ([`copy`]) and cuts one from a report ([`cut`],
+//! of an entry that [`edge_numbers`] names). Of more than three semi entries that have no cell in
+//! common a report makes no full one; [`draft_or`] makes a certificate of them, which a caller has
+//! to check. [`version_for`] is the version that lines need.
 //!
 //! **What is proved.** The text is a whole list of lines of words (specs/Texts.antt). `write` gives
 //! it. `read` answers the certificate whose text the bytes are, or exactly the first line that is
@@ -23,7 +25,8 @@
 //! ([`lines_are_rules`]).
 //!
 //! **What is only tested, or not said.** That calls get their memory; the time, which is linear in
-//! the text's length. What the derived texts of [`CertError`] are.
+//! the text's length. What the derived texts of [`CertError`] are. That what [`draft_or`] makes is
+//! accepted.
 //!
 //! **Limits.** [`MOST_LINES`] lines before the claim, in version 4 [`MOST_LATEST_LINES`], numbers
 //! up to [`MOST_NUMBER`], and [`MOST_CASES`] entries in an `or` or a `cases`;
@@ -50,6 +53,7 @@
 mod certs;
 mod claims;
 mod cutting;
+mod drafts;
 mod edges;
 mod heads;
 mod keywords;
@@ -80,12 +84,13 @@ pub use certs::{
 };
 pub use claims::claimed_move;
 pub use cutting::cut;
+pub use drafts::draft_or;
 pub use edges::edge_numbers;
 pub use laws::{accepted_certificates_win, claimed_moves_win};
 pub use limits::limits_are_those_of_the_manual;
 pub use lines::{End, LEAST_CASES, LEAST_MANY, Line, Lines, MOST_CASES, MOST_NUMBER};
 pub use lists::{CertText, Numbers};
-pub use raising::raise;
+pub use raising::{copy, raise};
 pub use reading::read;
 pub use reasons::Reason;
 pub use refusals::{CertError, Memory};

@@ -1,8 +1,9 @@
 //! Marks of the entries on which an entry rests.
 
-ghost use Rattle.std.specs.Prelude.{◌<◌, All, IfOk, length};
+ghost use Rattle.std.specs.Prelude.{◌≡◌, ◌<◌, All, IfOk, length};
 ghost use Rattle.win_cert.specs.Cuts.{premises};
-ghost use Rattle.win_cert.specs.Cutting.{AreMarks, IsMarkedBy, NameEarlier};
+ghost use Rattle.win_cert.specs.Cutting.{AreAllMarked, AreMarks, IsClosureOf, IsMarkedBy};
+ghost use Rattle.win_cert.specs.Cutting.{NameEarlier};
 
 use conn_store::{Cause, Entry};
 use std::alloc::{AllocError, Global};
@@ -15,14 +16,39 @@ pub(crate) fn marked(alloc: Global, entries: &[Entry], entry: u32) -> Result<Vec
 {
     let mut marks = vec![in alloc; false; entries.len()]?;
     marks[entry as usize] = true;
+    mark_premises(entries, &mut marks);
+    Ok(marks)
+}
+
+/// Marks the entries with these numbers and those on which they rest.
+pub(crate) fn marked_all(
+    alloc: Global,
+    entries: &[Entry],
+    numbers: &[u32],
+) -> Result<Vec<bool>, AllocError>
+    requires below { All (λ n. n < length entries.now) numbers.now }
+    requires earlier { NameEarlier entries.now }
+    ensures { IfOk result (λ marks. AreAllMarked entries.now marks.items) }
+{
+    let mut marks = vec![in alloc; false; entries.len()]?;
+    mark_all(&mut marks, numbers);
+    mark_premises(entries, &mut marks);
+    Ok(marks)
+}
+
+// Marks all entries on which those rest that are marked.
+fn mark_premises(entries: &[Entry], marks: &mut Vec<bool>)
+    requires number { length marks.old.items ≡ length entries.now }
+    requires earlier { NameEarlier entries.now }
+    ensures { IsClosureOf entries.now marks.old.items marks.new.items }
+{
     let mut left = entries.len();
     'entries: while 0 < left {
         left -= 1;
         if marks[left] {
-            mark(&mut marks, entries[left].cause);
+            mark(marks, entries[left].cause);
         }
     }
-    Ok(marks)
 }
 
 // Marks the premises of an entry with that cause.

@@ -1,4 +1,4 @@
-//! Certificates in the version with scopes and cases.
+//! Certificates in the version with scopes and cases, and copies.
 
 ghost use Rattle.std.specs.Prelude.{◌≡◌, IfOk, OnOk};
 ghost use Rattle.win_cert.specs.Verdicts.{HaveSameVerdict, raised};
@@ -18,6 +18,21 @@ pub fn raise(alloc: Global, cert: &Cert) -> Result<Cert, Memory>
     let lines = copies(alloc, cert.lines.as_slice())?;
     Ok(Cert {
         version: cert.version.max(SECOND_VERSION),
+        board: cert.board,
+        player: cert.player,
+        lines: Lines::of(lines),
+        claim: cert.claim,
+        entry: cert.entry,
+    })
+}
+
+/// The same certificate. It refuses only if memory runs out.
+pub fn copy(alloc: Global, cert: &Cert) -> Result<Cert, Memory>
+    ensures { IfOk result (λ new. new ≡ cert.now) }
+{
+    let lines = copies(alloc, cert.lines.as_slice())?;
+    Ok(Cert {
+        version: cert.version,
         board: cert.board,
         player: cert.player,
         lines: Lines::of(lines),

@@ -92,16 +92,14 @@ fn plays_what_it_proves(rt: HostRuntime) -> Result<(), Fail> {
         let unsolved = bytes_of(alloc, fields.next().ok_or("a plan without")?)?;
         let (mustplay, certificate) = played(&rt, "htp --playouts 9 --solve 20000", commands)?;
         assert!(rt; mustplay.as_bytes().starts_with(&solved), "{name}");
-        if mustplay.starts_with("win") {
-            let text = format!(in alloc; "{certificate}\n")?;
-            check(
-                &rt,
-                name,
-                &ample("check", text.as_bytes()),
-                b"yes semi\n",
-                0,
-            )?;
-        }
+        // A certificate of a loss says that the other player wins whoever places first.
+        let verdict = if mustplay.starts_with("win") {
+            b"yes semi\n"
+        } else {
+            b"yes full\n"
+        };
+        let text = format!(in alloc; "{certificate}\n")?;
+        check(&rt, name, &ample("check", text.as_bytes()), verdict, 0)?;
         let (mustplay, _none) = played(&rt, "htp --playouts 9", commands)?;
         assert!(rt; mustplay.as_bytes().starts_with(&unsolved), "{name}");
     }

@@ -23,7 +23,9 @@ one-cell|htp|boardsize 1~mustplay~genmove b~mustplay~search-report~clear_board~m
     = ~~? no search~~= a1~~= win a1~~? no search~~= ~~= win a1~~\
     = hexcert 1~size 1~player black~black~white~adj edge1 a1~adj edge2 a1~key 1 0~semi 2~~
 lost-by-two-threats|htp --playouts 1|boardsize 2~play b a2~genmove w~mustplay~wincert~|0|\
-    = ~~= ~~= a1~~= lost yes~allowed a1 b1 b2~threat a1~threat b1~~? no certificate~~
+    = ~~= ~~= a1~~= lost yes~allowed a1 b1 b2~threat a1~threat b1~~\
+    = hexcert 2~size 2~player black~black a2~white~adj edge1 a1~adj edge2 a1~adj edge1 b1~\
+    adj edge2 b1~key 1 0~key 3 2~or 5 4~full 6~~
 no-connections|htp --hsearch off --playouts 1|boardsize 2~play b a2~genmove w~mustplay~|0|\
     = ~~= ~~= a1~~= lost no~allowed a1 b1 b2~~
 one-turn|htp --hsearch off --playouts 1|boardsize 2~genmove b~search-report~mustplay~wincert~\

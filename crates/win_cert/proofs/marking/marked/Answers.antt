@@ -1,64 +1,32 @@
--- The entries that a marked one names are marked with it.
-use Rattle.std.proofs.Common.{◌≡◌, ℕ, ◌+◌, ◌-◌, ◌<◌, ◌≤◌, All, false, get_or, length, set, true, sym}
-use Rattle.std.proofs.Common.{◌∙◌, ap, subst, arith}
+-- What is marked first is in each set that has the entry.
+use Rattle.std.proofs.Common.{◌≡◌, ℕ, ◌<◌, false, length, set, true, sym, ◌∙◌, ap, subst}
 use Rattle.std.proofs.lemmas.List.{get_or-set_same, length-replicate, length-set}
-use Rattle.std.proofs.lemmas.List.Elements.{All-weaker}
-use Rattle.std.proofs.lemmas.Option.{slice_get-get_or}
-use Rattle.win_cert.specs.Cuts.{premises}
-use Rattle.win_cert.specs.Cutting.{IsClosedFrom, IsMarkedBy, is_marked}
-use Rattle.conn_store.specs.declared.entries.Entry.{Entry}
-use Rattle.win_cert.proofs.CutMarks.{closed_more, inside_one, marked_at, none_closed, none_inside}
-use Rattle.win_cert.proofs.CutMarks.{read_at}
+use Rattle.win_cert.proofs.CutMarks.{inside_one, none_inside}
 use Rattle.win_cert.proofs.marking.marked.Goals as goal
 
-pub entries-init : goal.entries-init
-entries-init c =
+pub mark_premises-requires-clause-number : goal.mark_premises-requires-clause-number
+mark_premises-requires-clause-number c =
+    let n : ℕ = c.args.entry in
+    let entries = c.args.entries.now in
+    let marks = c.in_ok-marks.marks.items in
+    length-set marks n true
+    ∙ (ap length (c.in_ok-marks.ensures.items_if_clones_equal (λ y h. h))
+    ∙ length-replicate (length entries) false)
+
+pub returns : goal.returns
+returns c =
     let n : ℕ = c.args.entry in
     let entries = c.args.entries.now in
     let marks = c.in_ok-marks.marks.items in
     let made = c.in_ok-marks.ensures.items_if_clones_equal (λ y h. h) in
     let long : length marks ≡ length entries
     = ap length made ∙ length-replicate (length entries) false in
+    let m = c.mark_premises.ensures in
     record {
-      number = length-set marks n true ∙ long;
-      left = omega arith;
-      asked = get_or-set_same marks n true false (subst (λ v. n < v) (sym long) c.requires.below);
-      closed = none_closed entries (set marks n true);
-      least = λ s h. inside_one marks n s (none_inside marks (length entries) s made) h.asked;
-    }
-
-pub mark-requires : goal.mark-requires
-mark-requires c =
-    let n : ℕ = c.entries.left - 1 in
-    let entries = c.args.entries.now in
-    let a = c.index-entries-left.result in
-    let long : length c.entries.marks.items ≡ length entries = c.entries.invariant.number in
-    let left : c.entries.left ≤ length entries = c.entries.invariant.left in
-    let e = get_or entries n a in
-    All-weaker (λ j. j < n) (λ j. j < length c.entries.marks.items)
-    (λ j l. omega (arith, l, long, left)) (premises e.cause)
-    (c.requires.earlier n e (slice_get-get_or entries n a (omega arith)))
-
-pub entries-preserved-then-index : goal.entries-preserved-then-index
-entries-preserved-then-index c =
-    let n : ℕ = c.entries.left - 1 in
-    let entries = c.args.entries.now in
-    let a = c.index-entries-left.result in
-    let up : c.entries.left ≡ n + 1 = omega arith in
-    let l : c.entries.left ≤ length entries = c.entries.invariant.left in
-    let long : length c.entries.marks.items ≡ length entries = c.entries.invariant.number in
-    let known : is_marked c.entries.marks.items n ≡ true
-    = marked_at c.entries.marks.items n c.index.result.now
-    (omega arith) c.index.ensures c.if-index.true in
-    record {
-      number = c.mark.ensures.number ∙ c.entries.invariant.number;
-      left = omega arith;
-      least = λ s f. c.mark.ensures.least s
-          (subst (λ (v : Entry). All (λ j. s j ≡ true) (premises v.cause)) c.index-entries-left.is
-          (f.closed n a (c.entries.invariant.least s f n known) (read_at entries n a (omega arith) c.index-entries-left.is)))
-          (c.entries.invariant.least s f);
-      asked = c.mark.ensures.kept c.args.entry c.entries.invariant.asked;
-      closed = closed_more entries c.entries.marks.items c.mark.new.marks.items n a c.requires.earlier (subst (IsClosedFrom entries c.entries.marks.items) up c.entries.invariant.closed)
-          (read_at entries n a (omega arith) c.index-entries-left.is)
-          (subst (λ (v : Entry). IsMarkedBy c.entries.marks.items (premises v.cause) c.mark.new.marks.items) (sym c.index-entries-left.is) c.mark.ensures);
+      number = m.number;
+      asked = m.kept n
+          (get_or-set_same marks n true false (subst (λ v. n < v) (sym long) c.requires.below));
+      closed = m.closed;
+      least = λ s h. m.least s h.closed
+          (inside_one marks n s (none_inside marks (length entries) s made) h.asked);
     }
