@@ -154,8 +154,8 @@ impl Look {
         let place = number_of(self.nodes.len());
         let first = number_of(self.kids.len());
         let mut slot = usize::MAX;
-        if let Some(judge) = self.judges.get(number) {
-            slot = self.pool.keep(alloc, judge.fresh(), place)?;
+        if let Some(judge) = self.judges.get_mut(number) {
+            slot = self.pool.keep(alloc, judge.after(), place)?;
             self.kids.extend_from_slice(judge.kids())?;
         }
         let kids = first..number_of(self.kids.len());

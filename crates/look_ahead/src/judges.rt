@@ -40,7 +40,9 @@ pub(crate) struct Judge {
     other: Circuit,
     // The links of the board.
     fresh: Both,
-    // Those of the node above, where they had to be made anew.
+    // Copies that can be kept: of those of an open board, and of those of the node above, where
+    // they had to be made anew.
+    after: Both,
     before: Both,
     room: Room,
     // The kids of the board.
@@ -58,6 +60,7 @@ impl Judge {
             own,
             other,
             fresh: Both::make(alloc)?,
+            after: Both::bare(alloc),
             before: Both::bare(alloc),
             room: Room::make(alloc),
             kids: Vec::new(alloc),
@@ -92,14 +95,14 @@ impl Judge {
         }
     }
 
-    /// The links of the board that was judged last.
-    pub(crate) fn fresh(&self) -> &Both {
-        &self.fresh
+    /// A copy of the links of the board that was judged last, if it is open.
+    pub(crate) fn after(&mut self) -> &mut Both {
+        &mut self.after
     }
 
-    /// The links of the node above, if they were made anew.
-    pub(crate) fn before(&self) -> &Both {
-        &self.before
+    /// A copy of the links of the node above, if they were made anew.
+    pub(crate) fn before(&mut self) -> &mut Both {
+        &mut self.before
     }
 
     /// The kids of the board that was judged last, if it is open.
@@ -158,6 +161,7 @@ impl Judge {
         self.fresh.of(mover).draw(&mut self.own);
         self.fresh.of(mover.other()).draw(&mut self.other);
         self.find_kids(must)?;
+        self.after.keep(&self.fresh)?;
         Ok(Finding {
             board: *board,
             verdict: Verdict::Among(must),

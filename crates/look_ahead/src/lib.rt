@@ -47,8 +47,8 @@
 //! - Sums stop at the greatest number, which none comes near: so no proof rests on their size.
 //! - Every loop is a `for`, which needs no proof that it ends. A walk that meets no new node
 //!   decides one, or goes on; there are at most four batches for each node of the budget.
-//! - A batch has a thread for each walk, and no queue: a board takes much longer than a thread takes
-//!   to start. Where none can be started, boards are judged in turn.
+//! - A batch has a thread for each walk, and no queue: a board takes much longer than a thread
+//!   takes to start. Where none can be started, boards are judged in turn.
 //! - The constants are by trial, in matches on boards of 11 by 11.
 #![tactic(auto)]
 

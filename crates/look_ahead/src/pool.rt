@@ -5,6 +5,7 @@ use hex_board::Board;
 use hex_cells::{CellSet, Colour};
 use live_links::{Links, Room, Until};
 use std::alloc::Global;
+use std::mem::swap;
 
 // The links of so many nodes are kept. With 400 nodes on a board of 11 by 11 this took 130 MB, with
 // 160 of them 70 MB and a fifth more time, since those of more nodes had to be made anew.
@@ -156,17 +157,22 @@ impl Pool {
         Some(slot)
     }
 
-    /// Keeps these links as those of a node: in which slot.
-    pub(crate) fn keep(&mut self, alloc: Global, both: &Both, node: u32) -> Result<usize, Memory> {
+    /// Keeps these copies of links as those of a node: in which slot. Who had them gets others.
+    pub(crate) fn keep(
+        &mut self,
+        alloc: Global,
+        both: &mut Both,
+        node: u32,
+    ) -> Result<usize, Memory> {
         self.clock = self.clock.saturating_add(1);
         if self.kept.len() < MOST_KEPT {
             self.kept.push(Both::bare(alloc))?;
         }
         let slot = self.oldest();
         if let Some(kept) = self.kept.get_mut(slot) {
+            swap(kept, both);
             kept.node = node;
             kept.used = self.clock;
-            kept.keep(both)?;
         }
         Ok(slot)
     }
