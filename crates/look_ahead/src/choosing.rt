@@ -1,8 +1,8 @@
 //! What a walk goes on by.
 
-use super::nodes::{Kid, State};
+use super::nodes::{AWAITED, Kid, State};
 use super::searches::Look;
-use super::values::{fresh_value, root_of, score_of, turned};
+use super::values::{fresh_value, root_of, score_of};
 
 impl Look {
     /// What is known at a place.
@@ -13,10 +13,11 @@ impl Look {
         }
     }
 
-    /// The kid of a node with the best score, among those that the other player isn't known to win.
+    /// The kid of a node with the best score, among those that the other player isn't known to win
+    /// and that aren't being judged.
     pub(super) fn best(&self, place: u32) -> Option<(u32, Kid)> {
         let node = self.nodes.get(place as usize)?;
-        let (mean, root) = (node.mean(), root_of(node.visits));
+        let (mean, root) = (node.mean(), root_of(node.visits.saturating_add(node.away)));
         let mut top = 0u64;
         let mut best = None;
         for number in node.first..node.first.saturating_add(node.count) {
@@ -32,14 +33,18 @@ impl Look {
     }
 
     // The score of a kid below a node with this mean and this root of its visits; `None` if its
-    // node is won.
+    // node is won, or being judged.
     fn score(&self, kid: &Kid, mean: u64, root: u64) -> Option<u64> {
+        if kid.node == AWAITED {
+            return None;
+        }
         let Some(node) = self.nodes.get(kid.node as usize) else {
             return Some(score_of(fresh_value(mean), kid.prior, 0, root));
         };
         if node.state == State::Won {
             return None;
         }
-        Some(score_of(turned(node.mean()), kid.prior, node.visits, root))
+        let visits = node.visits.saturating_add(node.away);
+        Some(score_of(node.mean_above(), kid.prior, visits, root))
     }
 }

@@ -28,6 +28,10 @@ pub(crate) struct LookNode {
     pub sum: u64,
     /// Where its links were kept.
     pub slot: usize,
+    /// The node above it; of the root [`NOWHERE`].
+    pub above: u32,
+    /// How many walks of this batch went on from here, and aren't back.
+    pub away: u64,
 }
 
 /// A cell on which the player to move at a node may place.
@@ -35,13 +39,16 @@ pub(crate) struct LookNode {
 pub(crate) struct Kid {
     pub cell: Cell,
     pub prior: u32,
-    /// The place of its node, or [`NOWHERE`].
+    /// The place of its node, or [`NOWHERE`], or [`AWAITED`].
     pub node: u32,
 }
 
+/// The place of a node that is being judged.
+pub(crate) const AWAITED: u32 = NOWHERE - 1;
+
 impl LookNode {
     /// A node that is won or lost.
-    pub(crate) fn decided(board: &Board, state: State) -> LookNode {
+    pub(crate) fn decided(board: &Board, state: State, above: u32) -> LookNode {
         LookNode {
             board: *board,
             state,
@@ -50,11 +57,19 @@ impl LookNode {
             visits: 1,
             sum: value_in(state, WON / 2),
             slot: usize::MAX,
+            above,
+            away: 0,
         }
     }
 
     /// An open node with this value, and kids at these places.
-    pub(crate) fn open(board: &Board, value: u64, kids: Range<u32>, slot: usize) -> LookNode {
+    pub(crate) fn open(
+        board: &Board,
+        value: u64,
+        kids: Range<u32>,
+        slot: usize,
+        above: u32,
+    ) -> LookNode {
         LookNode {
             board: *board,
             state: State::Open,
@@ -63,6 +78,8 @@ impl LookNode {
             visits: 1,
             sum: value,
             slot,
+            above,
+            away: 0,
         }
     }
 
@@ -81,13 +98,20 @@ impl LookNode {
         value_in(self.state, self.mean())
     }
 
+    /// What the mean is for the player who moves there, if each walk that isn't back found a loss.
+    pub(crate) fn mean_above(&self) -> u64 {
+        let all = self.visits.saturating_add(self.away);
+        turned(self.mean()).saturating_mul(self.visits) / all.max(1)
+    }
+
     /// It takes the value with which a walk came back from a kid's node, which is lost or not, and
     /// answers its own. A lost kid wins it.
     pub(crate) fn take(&mut self, below: u64, is_lost: bool) -> u64 {
-        let value = if is_lost { WON } else { turned(below) };
         if is_lost {
             self.state = State::Won;
         }
+        let value = value_in(self.state, turned(below));
+        self.away = self.away.saturating_sub(1);
         self.visits = self.visits.saturating_add(1);
         self.sum = self.sum.saturating_add(value);
         value

@@ -5,6 +5,7 @@ use hex_board::Board;
 use hex_cells::{CellSet, Colour};
 use live_links::{Links, Room, Until};
 use std::alloc::Global;
+use std::mem::swap;
 
 // The links of so many nodes are kept. With 400 nodes on a board of 11 by 11 this took 130 MB, with
 // 160 of them 70 MB and a fifth more time, since those of more nodes had to be made anew.
@@ -34,8 +35,8 @@ pub(crate) struct Both {
 }
 
 impl Both {
-    // No links.
-    fn make(alloc: Global) -> Result<Both, Memory> {
+    /// No links.
+    pub(crate) fn make(alloc: Global) -> Result<Both, Memory> {
         Ok(Both {
             black: Links::make(alloc)?,
             white: Links::make(alloc)?,
@@ -44,8 +45,8 @@ impl Both {
         })
     }
 
-    // Room for copies alone.
-    fn bare(alloc: Global) -> Both {
+    /// Room for copies alone.
+    pub(crate) fn bare(alloc: Global) -> Both {
         Both {
             black: Links::bare(alloc),
             white: Links::bare(alloc),
@@ -54,10 +55,8 @@ impl Both {
         }
     }
 
-    // Makes these a copy of others, as those of a node.
-    fn keep(&mut self, other: &Both, node: u32, clock: u64) -> Result<(), Memory> {
-        self.node = node;
-        self.used = clock;
+    /// Makes these a copy of others.
+    pub(crate) fn keep(&mut self, other: &Both) -> Result<(), Memory> {
         self.black.keep(&other.black)?;
         self.white.keep(&other.white)?;
         Ok(())
@@ -69,6 +68,13 @@ impl Both {
             Colour::Black => &self.black,
             Colour::White => &self.white,
         }
+    }
+
+    /// Makes them those of a board, from nothing.
+    pub(crate) fn load(&mut self, board: &Board) -> Result<(), Memory> {
+        self.black.load(board, Colour::Black, Until::Closed)?;
+        self.white.load(board, Colour::White, Until::Closed)?;
+        Ok(())
     }
 
     // Makes a player's those on a board, from those of a board with fewer stones.
@@ -86,26 +92,45 @@ impl Both {
         }
         Ok(())
     }
+
+    /// What is known of a board with this player to move, by the links of both: they are made from
+    /// those of a board with fewer stones.
+    pub(crate) fn verdict(
+        &mut self,
+        before: &Both,
+        board: &Board,
+        mover: Colour,
+        room: &mut Room,
+    ) -> Result<Verdict, Memory> {
+        let other = mover.other();
+        match board.winner() {
+            Some(winner) if winner == other => return Ok(Verdict::Lost),
+            Some(_) => return Ok(Verdict::Won),
+            None => {}
+        }
+        self.follow(before, mover, board, Until::AnyWin, room)?;
+        if self.of(mover).has_any() {
+            return Ok(Verdict::Won);
+        }
+        self.follow(before, other, board, Until::FullWin, room)?;
+        Ok(verdict_by(self.of(other)))
+    }
 }
 
-/// What is kept, and the links of the board that is judged.
+/// What is kept.
 #[derive(Drop)]
 pub(crate) struct Pool {
     kept: Vec<Both>,
-    fresh: Both,
-    room: Room,
     clock: u64,
 }
 
 impl Pool {
     /// An empty one.
-    pub(crate) fn make(alloc: Global) -> Result<Pool, Memory> {
-        Ok(Pool {
+    pub(crate) fn make(alloc: Global) -> Pool {
+        Pool {
             kept: Vec::new(alloc),
-            fresh: Both::make(alloc)?,
-            room: Room::make(alloc),
             clock: 0,
-        })
+        }
     }
 
     /// Says that nothing that is kept is of a node.
@@ -116,74 +141,38 @@ impl Pool {
         }
     }
 
-    /// The links of the board that is judged.
-    pub(crate) fn fresh(&self) -> &Both {
-        &self.fresh
+    /// The links in a slot.
+    pub(crate) fn at(&self, slot: usize) -> Option<&Both> {
+        self.kept.get(slot)
     }
 
-    /// Makes the links of a board from nothing.
-    pub(crate) fn load(&mut self, board: &Board) -> Result<(), Memory> {
-        self.fresh.black.load(board, Colour::Black, Until::Closed)?;
-        self.fresh.white.load(board, Colour::White, Until::Closed)?;
-        Ok(())
-    }
-
-    /// What is known of a board with this player to move, by the links of both: they are made from
-    /// those in this slot, which are of a board with fewer stones.
-    pub(crate) fn verdict(
-        &mut self,
-        slot: usize,
-        board: &Board,
-        mover: Colour,
-    ) -> Result<Verdict, Memory> {
-        let other = mover.other();
-        match board.winner() {
-            Some(winner) if winner == other => return Ok(Verdict::Lost),
-            Some(_) => return Ok(Verdict::Won),
-            None => {}
+    /// The slot with the links of a node, which were kept in this one. `None` if they are gone.
+    pub(crate) fn slot_of(&mut self, node: u32, slot: usize) -> Option<usize> {
+        let both = self.kept.get_mut(slot)?;
+        if both.node != node {
+            return None;
         }
-        let Some(before) = self.kept.get(slot) else {
-            return Ok(Verdict::Lost);
-        };
-        let room = &mut self.room;
-        let fresh = &mut self.fresh;
-        fresh.follow(before, mover, board, Until::AnyWin, room)?;
-        if fresh.of(mover).has_any() {
-            return Ok(Verdict::Won);
-        }
-        fresh.follow(before, other, board, Until::FullWin, room)?;
-        Ok(verdict_by(fresh.of(other)))
+        self.clock = self.clock.saturating_add(1);
+        both.used = self.clock;
+        Some(slot)
     }
 
-    /// The slot with the links of a node with this board, which are kept in this one if they are
-    /// still there.
-    pub(crate) fn slot_of(
+    /// Keeps these copies of links as those of a node: in which slot. Who had them gets others.
+    pub(crate) fn keep(
         &mut self,
         alloc: Global,
+        both: &mut Both,
         node: u32,
-        slot: usize,
-        board: &Board,
     ) -> Result<usize, Memory> {
-        self.clock = self.clock.saturating_add(1);
-        if let Some(both) = self.kept.get_mut(slot)
-            && both.node == node
-        {
-            both.used = self.clock;
-            return Ok(slot);
-        }
-        self.load(board)?;
-        self.keep(alloc, node)
-    }
-
-    /// Keeps the fresh links as those of a node: in which slot.
-    pub(crate) fn keep(&mut self, alloc: Global, node: u32) -> Result<usize, Memory> {
         self.clock = self.clock.saturating_add(1);
         if self.kept.len() < MOST_KEPT {
             self.kept.push(Both::bare(alloc))?;
         }
         let slot = self.oldest();
-        if let Some(both) = self.kept.get_mut(slot) {
-            both.keep(&self.fresh, node, self.clock)?;
+        if let Some(kept) = self.kept.get_mut(slot) {
+            swap(kept, both);
+            kept.node = node;
+            kept.used = self.clock;
         }
         Ok(slot)
     }

@@ -4,17 +4,19 @@ ghost use Rattle.std.specs.Prelude.{◌≡◌, ◌+◌, ◌≤◌, ◌<◌, ℕ,
 ghost use Rattle.hex_cells.specs.Sets.{has};
 ghost use Rattle.look_ahead.specs.Looked.{IsLookOf};
 
+use super::judges::Judge;
 use super::nodes::{Kid, LookNode, NOWHERE, State};
 use super::pool::Pool;
 use super::refusals::Memory;
 use super::rows::Looked;
-use circuit::Circuit;
 use hex_board::Board;
 use hex_cells::{Cell, CellSet, Colour, MOST_CELLS};
 use std::alloc::Global;
+use std::thread::Threads;
 
-// So many walks are made for each node of the budget at most: some end at a node that is known.
-const WALKS_PER_NODE: u64 = 4;
+// So many batches are made for each node of the budget at most: some walks end at a node that is
+// known.
+const BATCHES_PER_NODE: u64 = 4;
 
 // Room is made beforehand for so many nodes, with as many kids as the root has each: less than
 // 16 MB.
@@ -30,28 +32,46 @@ pub struct Root<'a> {
 /// A search, with memory that is used again.
 #[derive(Drop)]
 pub struct Look {
-    pub(super) own: Circuit,
-    pub(super) other: Circuit,
     pub(super) nodes: Vec<LookNode>,
     pub(super) kids: Vec<Kid>,
-    // The places of the nodes of a walk.
-    pub(super) path: Vec<u32>,
     // The links of nodes.
     pub(super) pool: Pool,
+    // One for each worker.
+    pub(super) judges: Vec<Judge>,
+}
+
+/// A kid without a node, the node above it, and who moves there.
+#[derive(Clone, Copy)]
+pub(super) struct Fresh {
+    pub above: u32,
+    pub number: u32,
+    pub mover: Colour,
+    pub cell: Cell,
+}
+
+/// Where a walk ends.
+#[derive(Clone, Copy)]
+pub(super) enum End {
+    /// At a node that is known.
+    Known(u32),
+    /// At a kid that has to be judged.
+    Fresh(Fresh),
+    /// Where all kids that are left are being judged.
+    Blocked,
 }
 
 impl Look {
-    /// A search without nodes.
-    pub fn make(alloc: Global) -> Result<Look, Memory> {
-        let own = Circuit::make(alloc)?;
-        let other = Circuit::make(alloc)?;
+    /// A search without nodes, by so many workers.
+    pub fn make(alloc: Global, workers: u32) -> Result<Look, Memory> {
+        let mut judges = Vec::new(alloc);
+        for _worker in 0..workers.max(1) {
+            judges.push(Judge::make(alloc)?)?;
+        }
         Ok(Look {
-            own,
-            other,
             nodes: Vec::new(alloc),
             kids: Vec::new(alloc),
-            path: Vec::new(alloc),
-            pool: Pool::make(alloc)?,
+            pool: Pool::make(alloc),
+            judges,
         })
     }
 
@@ -61,8 +81,9 @@ impl Look {
     /// is known to win after a stone does, and the line of a row can be played after it.
     ///
     /// It refuses only if memory runs out. A body is proved that walks to any nodes.
-    pub fn choose(
+    pub fn choose<R: Threads + Sync>(
         &mut self,
+        rt: &R,
         alloc: Global,
         root: &Root<'_>,
         must: CellSet,
@@ -77,92 +98,85 @@ impl Look {
         self.make_room(budget.min(NODES_WITH_ROOM), must.count())?;
         let first = self.opened_root(alloc, root, must)?;
         self.nodes.push(first)?;
-        'walks: for _walk in 0..u64::from(budget) * WALKS_PER_NODE {
-            if self.is_done(budget) {
+        'batches: for _batch in 0..u64::from(budget) * BATCHES_PER_NODE {
+            let most = self.width(budget);
+            if most == 0 {
                 break;
             }
-            self.walk(alloc, root.colour)?;
+            self.batch(rt, alloc, root.colour, most)?;
         }
         let nodes = self.nodes.len() as u32;
         let looked = self.told(alloc, root, must, nodes)?;
         Ok(looked)
     }
 
-    // Makes room for so many nodes, with so many kids each, and for a walk.
+    // Makes room for so many nodes, with so many kids each.
     fn make_room(&mut self, nodes: u32, kids: u32) -> Result<(), Memory>
         ensures { self.new.nodes.items ≡ self.old.nodes.items }
     {
         self.nodes.reserve(nodes as usize)?;
         self.kids.reserve(nodes as usize * kids as usize)?;
-        self.path.reserve(MOST_CELLS as usize + 1)?;
         Ok(())
     }
 
-    // Whether as many nodes were judged, or the root is decided.
-    fn is_done(&self, budget: u32) -> bool
-        ensures { result ≡ false → length self.now.nodes.items < budget }
+    // The root, with kids on these cells.
+    fn opened_root(
+        &mut self,
+        alloc: Global,
+        root: &Root<'_>,
+        must: CellSet,
+    ) -> Result<LookNode, Memory>
+        ensures { self.new.nodes ≡ self.old.nodes }
     {
-        self.nodes.len() >= budget as usize || self.state_at(0) != State::Open
+        self.pool.clear();
+        let Some(judge) = self.judges.first_mut() else {
+            return Err(Memory);
+        };
+        let finding = judge.judged_root(root.board, root.colour, must)?;
+        self.node_of(alloc, 0, &finding, NOWHERE)
     }
 
-    // One walk, with one new node where it ends at none that is known.
-    fn walk(&mut self, alloc: Global, colour: Colour) -> Result<(), Memory>
-        ensures few { length self.new.nodes.items ≤ length self.old.nodes.items + 1 }
-        ensures keeps { length self.old.nodes.items ≤ length self.new.nodes.items }
+    // How many boards are judged next: one for each worker, but no more nodes than the budget has,
+    // and none if the root is decided.
+    fn width(&self, budget: u32) -> usize
+        ensures { 0 < result → length self.now.nodes.items + result ≤ budget }
     {
-        self.path.clear();
-        self.down(alloc, colour)?;
-        self.up();
-        Ok(())
+        if self.state_at(0) != State::Open {
+            return 0;
+        }
+        let left = (budget as usize).saturating_sub(self.nodes.len());
+        left.min(self.judges.len())
     }
 
-    // Down to a new node, or to one that is known.
-    fn down(&mut self, alloc: Global, colour: Colour) -> Result<(), Memory>
-        ensures few { length self.new.nodes.items ≤ length self.old.nodes.items + 1 }
-        ensures keeps { length self.old.nodes.items ≤ length self.new.nodes.items }
+    /// Down to where a walk ends.
+    pub(super) fn down(&mut self, colour: Colour) -> End
+        ensures { length self.new.nodes.items ≡ length self.old.nodes.items }
     {
         let mut mover = colour;
         let mut place = 0u32;
         'stones: for _depth in 0..MOST_CELLS {
-            self.path.push(place)?;
             let Some((number, kid)) = self.next(place) else {
-                return Ok(());
+                break;
             };
             if kid.node == NOWHERE {
-                return self.enter(alloc, place, mover, number, kid.cell);
+                return End::Fresh(Fresh {
+                    above: place,
+                    number,
+                    mover,
+                    cell: kid.cell,
+                });
             }
             mover = mover.other();
             place = kid.node;
         }
-        Ok(())
-    }
-
-    // Judges the board after the kid with this number of a node, and makes a node of it.
-    fn enter(
-        &mut self,
-        alloc: Global,
-        above: u32,
-        mover: Colour,
-        number: u32,
-        cell: Cell,
-    ) -> Result<(), Memory>
-        ensures few { length self.new.nodes.items ≤ length self.old.nodes.items + 1 }
-        ensures keeps { length self.old.nodes.items ≤ length self.new.nodes.items }
-    {
-        let Some(node) = self.judged(alloc, above, mover, cell)? else {
-            return Ok(());
-        };
-        let place = self.nodes.len().min(NOWHERE as usize) as u32;
-        self.nodes.push(node)?;
-        if let Some(kid) = self.kids.get_mut(number as usize) {
-            kid.node = place;
+        if self.state_at(place) == State::Open {
+            return End::Blocked;
         }
-        self.path.push(place)?;
-        Ok(())
+        End::Known(place)
     }
 
     // The kid to which a walk goes on from an open node, with its number. If all are won by the
-    // other player, the node is lost.
+    // other player, the node is lost. `None` if some are being judged, and the others are won.
     fn next(&mut self, place: u32) -> Option<(u32, Kid)>
         ensures { length self.new.nodes.items ≡ length self.old.nodes.items }
     {
@@ -172,29 +186,31 @@ impl Look {
         let best = self.best(place);
         if best.is_none()
             && let Some(node) = self.nodes.get_mut(place as usize)
+            && node.away == 0
         {
             node.state = State::Lost;
         }
         best
     }
 
-    // Back up the path.
-    fn up(&mut self)
+    /// Back up from a node.
+    pub(super) fn up(&mut self, end: u32)
         ensures { length self.new.nodes.items ≡ length self.old.nodes.items }
     {
         let mut value = 0u64;
         let mut is_lost = false;
-        let count = self.path.len();
-        'nodes: for step in (0..count).rev() {
-            let place = self.path.get(step).copied().unwrap_or(NOWHERE);
-            if let Some(node) = self.nodes.get_mut(place as usize) {
-                value = if step + 1 == count {
-                    node.value()
-                } else {
-                    node.take(value, is_lost)
-                };
-                is_lost = node.state == State::Lost;
-            }
+        let mut place = end;
+        'nodes: for step in 0..=MOST_CELLS {
+            let Some(node) = self.nodes.get_mut(place as usize) else {
+                break;
+            };
+            value = if step == 0 {
+                node.value()
+            } else {
+                node.take(value, is_lost)
+            };
+            is_lost = node.state == State::Lost;
+            place = node.above;
         }
     }
 }

@@ -42,7 +42,7 @@ pub fn decided_turn<R: Threads + Sync, G: Gate + Sync>(
     let Some(allowed) = planned.allowed() else {
         return Ok(Turn::won(board, colour, turns, planned));
     };
-    let looked = looked_at(alloc, board, colour, allowed, means)?;
+    let looked = looked_at(rt, alloc, board, colour, allowed, knobs.workers, means)?;
     let cells = searched_cells(allowed, &looked);
     let shape = turn_shape(board, colour, cells, knobs, turns);
     let Ok(closed) = search(rt, alloc, &shape, gate) else {
@@ -51,12 +51,14 @@ pub fn decided_turn<R: Threads + Sync, G: Gate + Sync>(
     Ok(Turn::searched(closed, turns, planned, looked))
 }
 
-// What a look-ahead finds of the allowed cells, if the means have one.
-fn looked_at(
+// What a look-ahead by so many workers finds of the allowed cells, if the means have one.
+fn looked_at<R: Threads + Sync>(
+    rt: &R,
     alloc: Global,
     board: &Board,
     colour: Colour,
     allowed: CellSet,
+    workers: u32,
     means: Means,
 ) -> Result<Option<Looked>, Memory>
     requires { IsAny allowed }
@@ -67,11 +69,11 @@ fn looked_at(
     if !means.looks_ahead() {
         return Ok(None);
     }
-    let Ok(mut look) = Look::make(alloc) else {
+    let Ok(mut look) = Look::make(alloc, workers.min(means.look)) else {
         return Err(Memory);
     };
     let root = Root { board, colour };
-    match look.choose(alloc, &root, allowed, means.look) {
+    match look.choose(rt, alloc, &root, allowed, means.look) {
         Ok(looked) => Ok(Some(looked)),
         Err(_) => Err(Memory),
     }

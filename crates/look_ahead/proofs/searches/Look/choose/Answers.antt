@@ -5,5 +5,5 @@ use Rattle.look_ahead.proofs.searches.Look.choose.Goals as goal
 pub returns : goal.returns
 returns c =
     look_within c.args.root.now.board.now c.args.root.now.colour c.args.must c.len-nodes.result
-    c.args.budget c.in_ok-looked.looked (omega (arith, c.len-nodes.ensures, c.walks.invariant.few))
+    c.args.budget c.in_ok-looked.looked (omega (arith, c.len-nodes.ensures, c.batches.invariant.few))
     c.in_ok-looked.ensures

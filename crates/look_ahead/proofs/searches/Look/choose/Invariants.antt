@@ -1,8 +1,8 @@
 use Rattle.std.proofs.Common.{◌≤◌, length}
 use Rattle.look_ahead.proofs.searches.Look.choose.Given as goal
 
-abbrev pub invariant-walks : goal.invariant-walks
-invariant-walks l = record {
+abbrev pub invariant-batches : goal.invariant-batches
+invariant-batches l = record {
   root : 1 ≤ length l.self.nodes.items;
   few : length l.self.nodes.items ≤ l.budget;
 }
