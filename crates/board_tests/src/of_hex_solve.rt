@@ -45,7 +45,7 @@ fn told(
             }
             _ => Answer::Refused,
         },
-        Solved::Unknown { spent, own } => Answer::Unknown(spent, own.is_some()),
+        Solved::Unknown { spent, own, .. } => Answer::Unknown(spent, own.is_some()),
         Solved::TooLong { .. } => Answer::TooLong,
         Solved::Open { .. } => Answer::Open,
     })

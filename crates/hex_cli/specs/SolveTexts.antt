@@ -59,8 +59,8 @@ CanBeWritten size (Open full) = Unit {0}
 -- by that search it has as many lines as are told, or more if that is the greatest number of 64
 -- bits: more than one may have, at most two for each of these positions, and then more cells are
 -- empty than a few. If nobody is told to win, the budget is spent, the search needs more, and the
--- cell that is thought best is empty; or a full board keeps the stones of p, and nobody is joined on
--- it.
+-- cell that is thought best is empty; or a full board keeps the stones of p, and nobody is joined
+-- on it.
 abbrev pub MayBeAnswered : Bool → ℕ → Position → Colour → Solved → Type 0
 MayBeAnswered hsearch budget p mover (Won winner cert) = Wins winner p mover
     × Certifies p mover winner cert

@@ -34,9 +34,9 @@
 //! they name one as the best; and that each call is safe and ends.
 //!
 //! **What is only tested, or not said.** That something is found, how soon, and by how many lines;
-//! that a cell is named, and which; that each state is counted; that calls get their memory. A body of [`find`] or [`certified`]
-//! that never finds a certificate, or of any call that memory ran out, is proved, and refused by
-//! the tests (board_tests, of_hex_found).
+//! that a cell is named, and which; that each state is counted; that calls get their memory. A body
+//! of [`find`] or [`certified`] that never finds a certificate, or of any call that memory ran out,
+//! is proved, and refused by the tests (board_tests, of_hex_found).
 //!
 //! **Limits.** Those of `edge_tables`, `hex_scout` and `win_cert`; 4,000,000 scopes or needs while
 //! a certificate is made.

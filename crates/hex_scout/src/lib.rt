@@ -19,7 +19,8 @@
 //!
 //! **What is proved.** That each call is safe and ends, that no more states are counted as entered
 //! than the budget has, that it is told to be spent only if as many were counted, and that the best
-//! cell is empty. Nothing of who wins: `hex_found` makes certificates of what was found, and these are checked.
+//! cell is empty. Nothing of who wins: `hex_found` makes certificates of what was found, and these
+//! are checked.
 //!
 //! **What is only tested, or not said.** Who wins, and how soon that is found; that each state that
 //! is counted was entered. Without a promise, by trial: in which order cells are tried, and

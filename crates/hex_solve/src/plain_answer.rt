@@ -18,8 +18,8 @@ use hsearch::Report;
 use std::alloc::Global;
 
 /// Who wins the board, on which nobody is joined, with `mover` to place: by a search that tries the
-/// cells in rising order and enters at most `budget` positions. If it is unknown, the report and the
-/// best cell are handed on.
+/// cells in rising order and enters at most `budget` positions. If it is unknown, the report and
+/// the best cell are handed on.
 pub(crate) fn search_plainly(
     alloc: Global,
     board: &Board,
