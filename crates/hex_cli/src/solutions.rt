@@ -152,7 +152,8 @@ fn push_best(text: &mut Vec<u8>, cell: Cell, size: Size) -> Result<(), AllocErro
     let length = write_vertex(cell, size, &mut vertex);
     text.extend_from_slice(b"best ")?;
     text.extend_from_slice(&vertex[..length])?;
-    text.push(b'\n')
+    text.push(b'\n')?;
+    Ok(())
 }
 
 // The winner whose certificate would be too long, and how many lines it would have.
