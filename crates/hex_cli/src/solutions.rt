@@ -87,19 +87,16 @@ fn over_text(alloc: Global, winner: Colour) -> Result<Vec<u8>, AllocError>
 }
 
 // The text for an answer of the solver, with the cell that is thought best or without.
-fn text_of(
-    alloc: Global,
-    best: bool,
-    size: Size,
-    solved: &Solved,
-) -> Result<Vec<u8>, AllocError>
+fn text_of(alloc: Global, best: bool, size: Size, solved: &Solved) -> Result<Vec<u8>, AllocError>
     requires { CanBeWritten size solved.now }
     ensures { IfOk result (λ text. text.items ≡ solved_text best size solved.now) }
 {
     match solved {
         Solved::Won { winner, cert } => won_text(alloc, *winner, cert),
         Solved::Unknown {
-            spent, best: cell, ..
+            spent,
+            best: cell,
+            ..
         } => unknown_text(alloc, *spent, if best { *cell } else { None }, size),
         Solved::TooLong { winner, lines } => long_text(alloc, *winner, *lines),
         Solved::Open { .. } => b"open\n".to_vec(alloc),
