@@ -2,13 +2,16 @@
 _hexd_gtp() {
     local modes=''
     # All options, and those that take a value.
-    local options=' --size --workers --playouts --seed --words --expand --weight --hsearch --solve --look --steps --budget --trace --strength --seconds --swap --resign --ponder --log --config '
-    local valued=' --size --workers --playouts --seed --words --expand --weight --hsearch --solve --look --steps --budget --trace --strength --seconds --swap --resign --ponder --log --config '
+    local options=' --size --workers --playouts --seed --words --expand --weight --hsearch --solve --look --steps --budget --best --trace --strength --seconds --swap --resign --ponder --log --config '
+    local valued=' --size --workers --playouts --seed --words --expand --weight --hsearch --solve --look --steps --budget --best --trace --strength --seconds --swap --resign --ponder --log --config '
     local at word name=${COMP_WORDS[COMP_CWORD-1]}
     # bash cuts `--name=value` in three at the sign.
     [ "$name" = = ] && name=${COMP_WORDS[COMP_CWORD-2]}
     case $name in
         --hsearch)
+            mapfile -t COMPREPLY < <(compgen -W 'on off' -- "$2")
+            return ;;
+        --best)
             mapfile -t COMPREPLY < <(compgen -W 'on off' -- "$2")
             return ;;
         --strength)

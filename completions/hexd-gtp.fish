@@ -12,6 +12,7 @@ complete -c hexd-gtp -l solve -x -d 'How many positions a genmove, or bench, may
 complete -c hexd-gtp -l look -x -d 'How many nodes the look-ahead of a genmove, or of bench, judges: 0 to 1,000,000'
 complete -c hexd-gtp -l steps -x -d 'In sim how many steps of the schedule are drawn: 0 to 1,000,000'
 complete -c hexd-gtp -l budget -x -d 'In solve how many positions each search of the solver may enter: 1 to 18,446,744,073,709,551,615'
+complete -c hexd-gtp -l best -x -a 'on off' -d 'Whether solve names a best cell after unknown: on or off'
 complete -c hexd-gtp -l trace -r -F -d 'The name of a file, to which each search adds the trace of its tree: a text of at least one byte'
 complete -c hexd-gtp -l strength -x -a 'quick normal strong' -d 'How strongly hexd plays, by board/settings.json; of no effect if --playouts, --weight, --look or --solve is given and this is not: quick or normal or strong'
 complete -c hexd-gtp -l seconds -x -d 'How many seconds a move may take: 1 to 3,600'

@@ -20,4 +20,5 @@ complete -c hexd -l solve -x -d 'How many positions a genmove, or bench, may ent
 complete -c hexd -l look -x -d 'How many nodes the look-ahead of a genmove, or of bench, judges: 0 to 1,000,000'
 complete -c hexd -l steps -x -d 'In sim how many steps of the schedule are drawn: 0 to 1,000,000'
 complete -c hexd -l budget -x -d 'In solve how many positions each search of the solver may enter: 1 to 18,446,744,073,709,551,615'
+complete -c hexd -l best -x -a 'on off' -d 'Whether solve names a best cell after unknown: on or off'
 complete -c hexd -l trace -r -F -d 'The name of a file, to which each search adds the trace of its tree: a text of at least one byte'

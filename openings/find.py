@@ -67,15 +67,15 @@ def solved(opening, budget):
     return answered(f"(;GM[11]SZ[{opening.size}];B[{vertex(*opening)}])", budget)
 
 
-def answered(record, budget, is_needless=lambda: False):
-    """What `hexd solve` says of a record, and the processor seconds and the most memory, in MB, that it took. One that
-    was ended says nothing."""
+def answered(record, budget, is_needless=lambda: False, words=()):
+    """What `hexd solve`, with these words more, says of a record, and the processor seconds and the most memory, in MB,
+    that it took. One that was ended says nothing."""
     with tempfile.TemporaryFile() as given, tempfile.TemporaryFile() as said:
         given.write(record.encode())
         given.seek(0)
         # Ctrl-C, and the signal TERM, wait while it starts: before that is over nobody could end it.
         signal.pthread_sigmask(signal.SIG_BLOCK, ENDING_SIGNALS)
-        process = subprocess.Popen([PROGRAM, "solve", "--budget", str(budget)], stdin=given, stdout=said)
+        process = subprocess.Popen([PROGRAM, "solve", "--budget", str(budget), *words], stdin=given, stdout=said)
         try:
             signal.pthread_sigmask(signal.SIG_UNBLOCK, ENDING_SIGNALS)
             usage, megabytes = ended(process, is_needless)

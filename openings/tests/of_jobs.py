@@ -50,8 +50,14 @@ def expect_whole(folder, name, winner):
 
 def expect_deep(folder):
     """Either winner, by jobs of the least budget: what isn't solved is split, and no position is listed twice."""
-    for name, winner, cells in (("4-d1", "black", None), ("4-d2", "white", "b3"), ("4-d2", "white", "a1,b3")):
-        place, splits = folder / f"{name}-{cells}", 0
+    look = "--look", "30"
+    for name, winner, cells, way in (
+        ("4-d1", "black", None, look),
+        ("4-d1", "black", None, ["--best"]),
+        ("4-d2", "white", "b3", look),
+        ("4-d2", "white", "a1,b3", ["--best"]),
+    ):
+        place, splits = folder / f"{name}-{cells}-{way[0]}", 0
         if cells:
             expect(done_jobs(place, [name], "--cells", cells) == {name: "is split"}, f"{name} isn't split by {cells}")
         for _ in range(MOST_ROUNDS):
@@ -59,10 +65,10 @@ def expect_deep(folder):
                 break
             orders = [str(position_named(job).in_order()) for job in left]
             expect(len(set(orders)) == len(left), f"{name}: listed twice: {left}")
-            said = done_jobs(place, left, "--budget", "1", "--look", "30")
+            said = done_jobs(place, left, "--budget", "1", *way)
             splits += sum("split by" in words for words in said.values())
         expect_whole(place, name, winner)
-        expect(splits > 0 or winner == "white", f"{name}: no position was split")
+        expect(splits > 0 or winner == "white", f"{name}: no position was split by {way}")
 
 
 def expect_orders():

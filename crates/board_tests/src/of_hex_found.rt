@@ -255,6 +255,8 @@ fn budget_is_spent(rt: HostRuntime) -> Result<(), Fail> {
             (None, budget, 0)
         );
         assert!(rt; short.cert.is_none());
+        // A cell is named once the first position was entered.
+        assert_eq!(rt; short.best.is_some(), 0 < budget);
         let none = findings(
             &rt,
             rt.alloc(),
@@ -263,6 +265,7 @@ fn budget_is_spent(rt: HostRuntime) -> Result<(), Fail> {
             budget,
         );
         assert_eq!(rt; (none.found.is_some(), none.entered), (false, budget));
+        assert_eq!(rt; none.best, short.best);
     }
     Ok(())
 }

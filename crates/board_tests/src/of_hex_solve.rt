@@ -45,7 +45,7 @@ fn told(
             }
             _ => Answer::Refused,
         },
-        Solved::Unknown { spent, own } => Answer::Unknown(spent, own.is_some()),
+        Solved::Unknown { spent, own, .. } => Answer::Unknown(spent, own.is_some()),
         Solved::TooLong { .. } => Answer::TooLong,
         Solved::Open { .. } => Answer::Open,
     })
@@ -82,6 +82,23 @@ fn small_boards(rt: HostRuntime) {
             panic!(rt; "there is memory");
         };
         assert_eq!(rt; answer, expected);
+    }
+}
+
+#[test]
+fn best_cell(rt: HostRuntime) {
+    // Size 2 after a1, of which the first empty cell is b1; it is told if no connections are looked
+    // for. With them, size 4 after d1, of which a cell is told that has no stone.
+    let rows = [(2, 1, false, true), (4, 27, true, false)];
+    for (size, stones, hsearch, is_first) in rows {
+        let board = board_of(Size::of(size).expect(&rt, "a size"), stones);
+        let answer = solve(rt.alloc(), &board, Colour::White, hsearch, 1);
+        let Ok(Solved::Unknown { best, .. }) = answer else {
+            panic!(rt; "one position is too few");
+        };
+        let best = best.expect(&rt, "a cell is told");
+        assert!(rt; board.empties().has(best));
+        assert_eq!(rt; board.empties().least() == Some(best), is_first);
     }
 }
 

@@ -30,7 +30,7 @@
 //! which of several covers is chosen; a body of [`cover`] that always answers none is proved. Any
 //! call that takes memory may say that it ran out.
 //!
-//! **Limits.** 2,000,000 entries. A full table ends a search like a spent budget.
+//! **Limits.** 8,000,000 entries. A full table ends a search like a spent budget.
 //!
 //! **Why so.**
 //!

@@ -13,8 +13,8 @@ use hex_cells::CellSet;
 use indexmap::IndexMap;
 use std::alloc::{AllocError, Global};
 
-/// The most entries of the tables: some 200 MB.
-const MOST_ENTRIES: usize = 2_000_000;
+/// The most entries of the tables: some 800 MB.
+const MOST_ENTRIES: usize = 8_000_000;
 
 /// The entries that are known.
 #[derive(Drop)]

@@ -1,27 +1,31 @@
 -- What a solver says of a game's board.
-use Rattle.std.proofs.Common.{Bool, ℕ, ◌≡◌, subst}
+use Rattle.std.proofs.Common.{Bool, ℕ, ◌≡◌, ap, subst, sym, Some, None}
 use Rattle.hex_cells.specs.declared.colours.Colour.{Colour}
 use Rattle.hex_board.specs.Positions.{Position}
+use Rattle.hex_board.proofs.Placed.{empty_on}
 use Rattle.hex_game.specs.Games.{GameData, board_of}
-use Rattle.hex_solve.specs.Solved.{OpenIsFull, TooLongIsCounted, TooLongNeedsMany}
+use Rattle.hex_solve.specs.Solved.{BestIsEmpty, OpenIsFull, TooLongIsCounted, TooLongNeedsMany}
 use Rattle.hex_solve.specs.Solved.{UnknownNeedsMore, WinnerWins, WonIsCertified, WonIsShort}
 use Rattle.hex_solve.specs.declared.answers.Solved.{Solved}
 use Rattle.hex_solve.specs.declared.answers.Solved.TheVariants.{Won, Unknown, TooLong, Open}
-use Rattle.hex_cli.specs.SolveTexts.{MayBeAnswered, next_mover}
+use Rattle.hex_cli.specs.SolveTexts.{CanBeWritten, MayBeAnswered, next_mover}
 
 -- what the solver promises of each answer
 pub solved_by : (hsearch : Bool) (budget : ℕ) (p : Position) (mover : Colour) (solved : Solved)
     → WinnerWins p mover solved → WonIsCertified p mover solved → WonIsShort p mover hsearch solved
-    → UnknownNeedsMore p mover hsearch budget solved → TooLongNeedsMany p mover solved
-    → TooLongIsCounted p mover solved → OpenIsFull p solved
+    → UnknownNeedsMore p mover hsearch budget solved → BestIsEmpty p solved
+    → TooLongNeedsMany p mover solved → TooLongIsCounted p mover solved → OpenIsFull p solved
     → MayBeAnswered hsearch budget p mover solved
-solved_by hsearch budget p mover (Won winner cert) wins won short unknown long counted filled
-    = (wins, won, short)
-solved_by hsearch budget p mover (Unknown spent own) wins won short unknown long counted filled =
-    unknown
-solved_by hsearch budget p mover (TooLong winner lines) wins won short unknown long counted filled
-    = (wins, long.0, long.1, long.2, counted)
-solved_by hsearch budget p mover (Open full) wins won short unknown long counted filled = filled
+solved_by hsearch budget p mover (Won winner cert) wins won short unknown best long counted filled =
+    (wins, won, short)
+solved_by hsearch budget p mover (Unknown spent own cell) wins won short unknown best long counted
+    filled =
+    (unknown.0, unknown.1, unknown.2, best)
+solved_by hsearch budget p mover (TooLong winner lines) wins won short unknown best long counted
+    filled =
+    (wins, long.0, long.1, long.2, counted)
+solved_by hsearch budget p mover (Open full) wins won short unknown best long counted filled =
+    filled
 
 pub solved_of_game : (hsearch : Bool) (budget : ℕ) (game : GameData) (p : Position) (mover : Colour)
     (solved : Solved) → p ≡ board_of game → mover ≡ next_mover game.steps
@@ -30,3 +34,12 @@ pub solved_of_game : (hsearch : Bool) (budget : ℕ) (game : GameData) (p : Posi
 solved_of_game hsearch budget game p mover solved board next s =
     subst (λ (q : Position). MayBeAnswered hsearch budget q (next_mover game.steps) solved) board
     (subst (λ (m : Colour). MayBeAnswered hsearch budget p m solved) next s)
+
+-- what the solver answers of a position can be written
+pub can_be_written : (p : Position) (mover : Colour) (solved : Solved)
+    → WonIsCertified p mover solved → BestIsEmpty p solved → CanBeWritten p.size solved
+can_be_written p mover (Won winner cert) won best = won.writable
+can_be_written p mover (Unknown spent own (Some cell)) won best = empty_on p cell best
+can_be_written p mover (Unknown spent own None) won best = tt
+can_be_written p mover (TooLong winner lines) won best = tt
+can_be_written p mover (Open full) won best = tt

@@ -21,6 +21,7 @@ use Rattle.hex_devices.specs.Statuses.{end_of_outcome, end_of_answer, end_of_out
 use Rattle.hex_devices.specs.declared.ends.End.{End}
 use Rattle.hex_cli.specs.declared.kinds.ModeKind.{ModeKind}
 use Rattle.hex_cli.specs.declared.kinds.ModeKind.TheVariants.{Session, WholeInput, OneTurn}
+use Rattle.hex_cli.specs.declared.solutions.SolveOptions.{SolveOptions}
 use Rattle.hex_cli.specs.declared.whole_inputs.InputMode.TheVariants as input
 use Rattle.hex_io.specs.declared.limits.TheConstants.{INPUT_LIMIT}
 
@@ -56,6 +57,10 @@ mode_options o = record {
   means = bench_means o;
 }
 
+-- what the mode solve is told
+abbrev pub solve_options : Options → SolveOptions
+solve_options o = record { hsearch = o.hsearch; budget = o.budget; best = o.best }
+
 -- ---- the kinds of mode
 
 -- a session, one that takes its whole input, or one that hands in one turn
@@ -66,7 +71,7 @@ kind_of Migrate options = WholeInput input.Migrate
 kind_of Audit options = WholeInput input.Audit
 kind_of Sim options = OneTurn turn.Sim
 kind_of Bench options = OneTurn turn.Bench
-kind_of Solve options = WholeInput (input.Solve options.hsearch options.budget)
+kind_of Solve options = WholeInput (input.Solve (solve_options options))
 
 -- ---- one relation for each kind
 

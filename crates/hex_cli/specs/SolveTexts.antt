@@ -1,10 +1,11 @@
 -- What mode solve answers.
 use Rattle.std.specs.Prelude.{◌≡◌, ◌⊎◌, ◌-◌, ◌*◌, ◌^◌, ◌<◌, ◌≤◌, ℕ, Bool, true, false}
-use Rattle.std.specs.Prelude.{List, ◌++◌, Some, None, codes, length}
+use Rattle.std.specs.Prelude.{List, [], ◌++◌, Option, Some, None, IfSome, codes, length}
 use Rattle.std.specs.Fmt.{decimal}
 use Rattle.std.specs.List.{slice_get}
 use Rattle.std.specs.Option.{option_map_or}
 use Rattle.hex_cells.specs.Colours.{colour_word, other_of}
+use Rattle.hex_cells.specs.Vertices.{vertex_of}
 use Rattle.hex_cells.specs.declared.colours.Colour.{Colour}
 use Rattle.hex_cells.specs.declared.colours.Colour.TheVariants.{Black}
 use Rattle.hex_board.specs.Joined.{winner_of}
@@ -18,44 +19,54 @@ use Rattle.hex_game.specs.declared.moves.Step.{Step}
 use Rattle.sgf_game.specs.RecordOf.{IsGameOf}
 use Rattle.hex_solve.specs.Deciding.{lines_needed, positions_needed}
 use Rattle.hex_found.specs.Found.{Certifies}
-use Rattle.hex_solve.specs.Solved.{IsOpenBoard, IsOwnReport, few_cells}
+use Rattle.hex_solve.specs.Solved.{IsBest, IsOpenBoard, IsOwnReport, few_cells}
 use Rattle.hex_solve.specs.declared.answers.Solved.{Solved}
 use Rattle.hex_solve.specs.declared.answers.Solved.TheVariants.{Won, Unknown, TooLong, Open}
+use Rattle.hex_cli.specs.declared.solutions.SolveOptions.{SolveOptions}
 
 -- the player to place after these steps: the other of who made the last, and Black before any
 abbrev pub next_mover : List Step → Colour
 next_mover steps =
     option_map_or (λ step. other_of step.colour) (slice_get steps (length steps - 1)) Black
 
--- the text for an answer of the solver
-abbrev pub solved_text : Solved → List ℕ
-solved_text (Won winner cert) =
-    codes "won " ++ (colour_word winner ++ (codes "\n" ++ cert_text cert))
-solved_text (Unknown spent own) = codes "unknown " ++ (decimal spent ++ codes "\n")
-solved_text (TooLong winner lines) =
-    codes "too long " ++ (colour_word winner ++ (codes " " ++ (decimal lines ++ codes "\n")))
-solved_text (Open full) = codes "open\n"
+-- the line of the cell that is thought best on a board of this size, if it is asked for
+abbrev pub best_line : Bool → ℕ → Option ℕ → List ℕ
+best_line true size (Some cell) = codes "best " ++ (vertex_of size cell ++ codes "\n")
+best_line true size None = []
+best_line false size cell = []
 
--- an answer whose certificate, if it has one, can be written; private clauses alone cite it
-abbrev pub CanBeWritten : Solved → Type 0
-CanBeWritten (Won winner cert) = IsWritable cert
-CanBeWritten (Unknown spent own) = Unit {0}
-CanBeWritten (TooLong winner lines) = Unit {0}
-CanBeWritten (Open full) = Unit {0}
+-- the text for an answer of the solver, with the cell that is thought best or without
+abbrev pub solved_text : Bool → ℕ → Solved → List ℕ
+solved_text best size (Won winner cert) =
+    codes "won " ++ (colour_word winner ++ (codes "\n" ++ cert_text cert))
+solved_text best size (Unknown spent own cell) =
+    codes "unknown " ++ (decimal spent ++ (codes "\n" ++ best_line best size cell))
+solved_text best size (TooLong winner lines) =
+    codes "too long " ++ (colour_word winner ++ (codes " " ++ (decimal lines ++ codes "\n")))
+solved_text best size (Open full) = codes "open\n"
+
+-- an answer of which the certificate, or the cell of a board of this size, can be written; private
+-- clauses alone cite it
+abbrev pub CanBeWritten : ℕ → Solved → Type 0
+CanBeWritten size (Won winner cert) = IsWritable cert
+CanBeWritten size (Unknown spent own best) = IfSome best (λ cell. cell < size * size)
+CanBeWritten size (TooLong winner lines) = Unit {0}
+CanBeWritten size (Open full) = Unit {0}
 
 -- What the solver may answer, with connections or without and with this budget, of the position p
 -- with `mover` to place. Who is told to win does, whatever the other does. His certificate shows
 -- it, and without connections it has at most two lines for each position that the search needs; or
 -- by that search it has as many lines as are told, or more if that is the greatest number of 64
 -- bits: more than one may have, at most two for each of these positions, and then more cells are
--- empty than a few. If nobody is told to win, the budget is spent, and the search needs more; or a
--- full board keeps the stones of p, and nobody is joined on it.
+-- empty than a few. If nobody is told to win, the budget is spent, the search needs more, and the
+-- cell that is thought best is empty; or a full board keeps the stones of p, and nobody is joined
+-- on it.
 abbrev pub MayBeAnswered : Bool → ℕ → Position → Colour → Solved → Type 0
 MayBeAnswered hsearch budget p mover (Won winner cert) = Wins winner p mover
     × Certifies p mover winner cert
     × (hsearch ≡ false → length cert.lines ≤ 2 * positions_needed p mover)
-MayBeAnswered hsearch budget p mover (Unknown spent own) =
-    (spent ≡ budget) × (budget < positions_needed p mover) × IsOwnReport p mover hsearch own
+MayBeAnswered hsearch budget p mover (Unknown spent own best) = (spent ≡ budget)
+    × (budget < positions_needed p mover) × IsOwnReport p mover hsearch own × IsBest p best
 MayBeAnswered hsearch budget p mover (TooLong winner lines) = Wins winner p mover
     × (MOST_LINES < lines) × (lines ≤ 2 * positions_needed p mover) × (few_cells < empty_count p)
     × (lines < 2 ^ 64 - 1 → lines ≡ lines_needed winner p mover)
@@ -67,16 +78,16 @@ IsOverText game text = (winner : Colour) × (winner_of (board_of game) ≡ Some 
     × (text ≡ codes "over " ++ (colour_word winner ++ codes "\n"))
 
 -- nobody is joined on the game's board, and the text is that of what the solver may answer of it
-abbrev pub IsSolvedText : Bool → ℕ → GameData → List ℕ → Type 0
-IsSolvedText hsearch budget game text =
+abbrev pub IsSolvedText : SolveOptions → GameData → List ℕ → Type 0
+IsSolvedText asked game text =
     (solved : Solved) × (winner_of (board_of game) ≡ None)
-    × MayBeAnswered hsearch budget (board_of game) (next_mover game.steps) solved
-    × (text ≡ solved_text solved)
+    × MayBeAnswered asked.hsearch asked.budget (board_of game) (next_mover game.steps) solved
+    × (text ≡ solved_text asked.best (board_of game).size solved)
 
 -- Mode solve: the text tells who wins the position of the game of which the bytes are a record; or
 -- they are a record of none.
-abbrev pub IsSolveText : Bool → ℕ → List ℕ → List ℕ → Bool → Type 0
-IsSolveText hsearch budget bytes text true = (game : GameData) × IsGameOf bytes (Some game)
-    × (IsOverText game text ⊎ IsSolvedText hsearch budget game text)
-IsSolveText hsearch budget bytes text false =
+abbrev pub IsSolveText : SolveOptions → List ℕ → List ℕ → Bool → Type 0
+IsSolveText asked bytes text true = (game : GameData) × IsGameOf bytes (Some game)
+    × (IsOverText game text ⊎ IsSolvedText asked game text)
+IsSolveText asked bytes text false =
     IsGameOf bytes None × (text ≡ codes "not a game\n")

@@ -11,4 +11,4 @@ abbrev pub IsTextOf : InputMode → TextOf
 IsTextOf Check = IsCheckText
 IsTextOf Migrate = IsMigrateText
 IsTextOf Audit = IsAuditText
-IsTextOf (Solve hsearch budget) = IsSolveText hsearch budget
+IsTextOf (Solve asked) = IsSolveText asked

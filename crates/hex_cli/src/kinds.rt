@@ -3,6 +3,7 @@
 ghost use Rattle.std.specs.Prelude.{◌≡◌};
 ghost use Rattle.hex_cli.specs.Modes.{kind_of};
 
+use crate::solutions::SolveOptions;
 use crate::whole_inputs::InputMode;
 use hexd_args::{Mode, Options};
 use turn_modes::TurnMode;
@@ -30,10 +31,11 @@ impl ModeKind {
             Mode::Audit => ModeKind::WholeInput(InputMode::Audit),
             Mode::Sim => ModeKind::OneTurn(TurnMode::Sim),
             Mode::Bench => ModeKind::OneTurn(TurnMode::Bench),
-            Mode::Solve => ModeKind::WholeInput(InputMode::Solve {
+            Mode::Solve => ModeKind::WholeInput(InputMode::Solve(SolveOptions {
                 hsearch: options.hsearch,
                 budget: options.budget,
-            }),
+                best: options.best,
+            })),
         }
     }
 }

@@ -1,14 +1,15 @@
 //! Mode `solve`: what it answers to the bytes of a record.
 
-ghost use Rattle.std.specs.Prelude.{◌≡◌, ◌⊎◌, ◌++◌, IfOk, codes};
+ghost use Rattle.std.specs.Prelude.{◌≡◌, ◌⊎◌, ◌++◌, ◌*◌, ◌<◌, IfOk, IfSome, OnOk, codes};
 ghost use Rattle.std.specs.Fmt.{decimal};
 ghost use Rattle.hex_cells.specs.Colours.{colour_word};
+ghost use Rattle.hex_cells.specs.Vertices.{vertex_of};
 ghost use Rattle.win_cert.specs.Texts.{cert_text};
 ghost use Rattle.win_cert.specs.Writable.{IsWritable};
 ghost use Rattle.hex_cli.specs.SolveTexts.{IsOverText, IsSolveText, IsSolvedText, CanBeWritten};
-ghost use Rattle.hex_cli.specs.SolveTexts.{next_mover, solved_text};
+ghost use Rattle.hex_cli.specs.SolveTexts.{best_line, next_mover, solved_text};
 
-use hex_cells::{Colour, push_number};
+use hex_cells::{Cell, Colour, Size, VERTEX_LEN, push_number, write_vertex};
 use hex_devices::InputAnswer;
 use hex_game::{Game, Step};
 use hex_solve::{Solved, solve};
@@ -16,20 +17,29 @@ use sgf_game::read_game;
 use std::alloc::{AllocError, Global};
 use win_cert::{Cert, write};
 
-/// The answer of mode `solve`: who wins the position of the record's game, within the budget and
-/// with connections or without; or that the bytes are no record of a game.
+/// How a position is solved, and what is told of it.
+#[derive(Clone, Copy, Debug, PartialEq, Eq)]
+pub struct SolveOptions {
+    /// Whether connections are looked for.
+    pub hsearch: bool,
+    /// How many positions the solver may enter.
+    pub budget: u64,
+    /// Whether the cell that is thought best is told if the winner isn't.
+    pub best: bool,
+}
+
+/// The answer of mode `solve`: who wins the position of the record's game, by these options; or
+/// that the bytes are no record of a game.
 pub fn solve_record(
     alloc: Global,
-    hsearch: bool,
-    budget: u64,
+    options: &SolveOptions,
     input: &[u8],
 ) -> Result<InputAnswer, AllocError>
-    ensures { IfOk result
-        (λ a. IsSolveText hsearch budget input.now a.text.items a.accepted) }
+    ensures { IfOk result (λ a. IsSolveText options.now input.now a.text.items a.accepted) }
 {
     match read_game(alloc, input)? {
         Some(game) => Ok(InputAnswer {
-            text: game_text(alloc, hsearch, budget, &game)?,
+            text: game_text(alloc, options, &game)?,
             accepted: true,
         }),
         None => Ok(InputAnswer {
@@ -40,19 +50,19 @@ pub fn solve_record(
 }
 
 // The text for a game: who is joined on its board, or what the solver answers of it.
-fn game_text(alloc: Global, hsearch: bool, budget: u64, game: &Game) -> Result<Vec<u8>, AllocError>
+fn game_text(alloc: Global, options: &SolveOptions, game: &Game) -> Result<Vec<u8>, AllocError>
     ensures { IfOk result (λ text. IsOverText game.now text.items
-        ⊎ IsSolvedText hsearch budget game.now text.items) }
+        ⊎ IsSolvedText options.now game.now text.items) }
 {
     let board = game.board();
     if let Some(winner) = board.winner() {
         return over_text(alloc, winner);
     }
     let mover = next_to_place(game.steps());
-    let Ok(solved) = solve(alloc, board, mover, hsearch, budget) else {
+    let Ok(solved) = solve(alloc, board, mover, options.hsearch, options.budget) else {
         return Err(AllocError);
     };
-    text_of(alloc, &solved)
+    text_of(alloc, options.best, board.size(), &solved)
 }
 
 // The player to place after these steps: who didn't make the last, and Black before any.
@@ -76,14 +86,18 @@ fn over_text(alloc: Global, winner: Colour) -> Result<Vec<u8>, AllocError>
     Ok(text)
 }
 
-// The text for an answer of the solver.
-fn text_of(alloc: Global, solved: &Solved) -> Result<Vec<u8>, AllocError>
-    requires { CanBeWritten solved.now }
-    ensures { IfOk result (λ text. text.items ≡ solved_text solved.now) }
+// The text for an answer of the solver, with the cell that is thought best or without.
+fn text_of(alloc: Global, best: bool, size: Size, solved: &Solved) -> Result<Vec<u8>, AllocError>
+    requires { CanBeWritten size solved.now }
+    ensures { IfOk result (λ text. text.items ≡ solved_text best size solved.now) }
 {
     match solved {
         Solved::Won { winner, cert } => won_text(alloc, *winner, cert),
-        Solved::Unknown { spent, .. } => unknown_text(alloc, *spent),
+        Solved::Unknown {
+            spent,
+            best: cell,
+            ..
+        } => unknown_text(alloc, *spent, if best { *cell } else { None }, size),
         Solved::TooLong { winner, lines } => long_text(alloc, *winner, *lines),
         Solved::Open { .. } => b"open\n".to_vec(alloc),
     }
@@ -105,14 +119,38 @@ fn won_text(alloc: Global, winner: Colour, cert: &Cert) -> Result<Vec<u8>, Alloc
     Ok(text)
 }
 
-// The budget that was spent.
-fn unknown_text(alloc: Global, spent: u64) -> Result<Vec<u8>, AllocError>
-    ensures { IfOk result (λ text. text.items ≡ codes "unknown " ++ (decimal spent ++ codes "\n")) }
+// The budget that was spent, and the cell that is thought best, if it is told.
+fn unknown_text(
+    alloc: Global,
+    spent: u64,
+    best: Option<Cell>,
+    size: Size,
+) -> Result<Vec<u8>, AllocError>
+    requires { IfSome best (λ cell. cell < size * size) }
+    ensures { IfOk result (λ text. text.items
+        ≡ codes "unknown " ++ (decimal spent ++ (codes "\n" ++ best_line true size best))) }
 {
     let mut text = b"unknown ".to_vec(alloc)?;
     push_number(alloc, &mut text, spent)?;
     text.push(b'\n')?;
+    if let Some(cell) = best {
+        push_best(&mut text, cell, size)?;
+    }
     Ok(text)
+}
+
+// The line of the cell that is thought best.
+fn push_best(text: &mut Vec<u8>, cell: Cell, size: Size) -> Result<(), AllocError>
+    requires { cell < size * size }
+    ensures { OnOk result (text.new.items
+        ≡ text.old.items ++ (codes "best " ++ (vertex_of size cell ++ codes "\n"))) }
+{
+    let mut vertex = [0; VERTEX_LEN];
+    let length = write_vertex(cell, size, &mut vertex);
+    text.extend_from_slice(b"best ")?;
+    text.extend_from_slice(&vertex[..length])?;
+    text.push(b'\n')?;
+    Ok(())
 }
 
 // The winner whose certificate would be too long, and how many lines it would have.

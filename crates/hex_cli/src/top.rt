@@ -15,7 +15,7 @@ ghost use Rattle.hex_devices.specs.Statuses.{Reports};
 ghost use Rattle.hex_cli.specs.CertTexts.{IsCheckText, IsMigrateText};
 ghost use Rattle.hex_cli.specs.Determined.{Determines};
 ghost use Rattle.hex_cli.specs.Headline.{HasHeadline};
-ghost use Rattle.hex_cli.specs.Modes.{AnswersBy, HandsInBy};
+ghost use Rattle.hex_cli.specs.Modes.{AnswersBy, HandsInBy, solve_options};
 ghost use Rattle.hex_cli.specs.Playing.{HasGoodTurns, HasKnownThreats, HasPlayed};
 ghost use Rattle.hex_cli.specs.Runs.{InMode, seen, HasIdleShelf, HasIdleArchive};
 ghost use Rattle.hex_cli.specs.SolveTexts.{IsSolveText};
@@ -104,7 +104,7 @@ pub fn run<D: DeviceTypes, E: Link>(
         (seen line.now result devices.old devices.new) }
     ensures audited { InMode Audit (λ options. AnswersBy IsAuditText)
         (seen line.now result devices.old devices.new) }
-    ensures solved { InMode Solve (λ o. AnswersBy (IsSolveText o.hsearch o.budget))
+    ensures solved { InMode Solve (λ o. AnswersBy (IsSolveText (solve_options o)))
         (seen line.now result devices.old devices.new) }
 
     // Modes sim and bench: one turn was handed to the archive, and then its text given.

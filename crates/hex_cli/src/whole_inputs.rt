@@ -9,7 +9,7 @@ ghost use Rattle.hex_io.specs.declared.limits.TheConstants.{INPUT_LIMIT};
 
 use crate::audits::audit_traces;
 use crate::certificates::{check_certificate, migrate_certificate};
-use crate::solutions::solve_record;
+use crate::solutions::{SolveOptions, solve_record};
 use hex_devices::{DeviceTypes, Devices, End, InputAnswer, InputReader, answer_input};
 use hex_io::INPUT_LIMIT;
 use std::alloc::{AllocError, Global};
@@ -24,12 +24,7 @@ pub enum InputMode {
     /// It is audited as traces of closed trees.
     Audit,
     /// It is read as the record of a game, and solved.
-    Solve {
-        /// Whether connections are looked for.
-        hsearch: bool,
-        /// How many positions the solver may enter.
-        budget: u64,
-    },
+    Solve(SolveOptions),
 }
 
 impl InputReader for InputMode {
@@ -42,9 +37,7 @@ impl InputReader for InputMode {
             InputMode::Check => check_certificate(alloc, input),
             InputMode::Migrate => migrate_certificate(alloc, input),
             InputMode::Audit => audit_traces(alloc, input),
-            InputMode::Solve { hsearch, budget } => {
-                solve_record(alloc, *hsearch, *budget, input)
-            }
+            InputMode::Solve(options) => solve_record(alloc, options, input),
         }
     }
 }

@@ -1,6 +1,7 @@
 //! Certificates that are found, and checked.
 
-ghost use Rattle.std.specs.Prelude.{◌≡◌, ◌≤◌, IfOk, IfSome, None, Ok, length};
+ghost use Rattle.std.specs.Prelude.{◌≡◌, ◌≤◌, true, IfOk, IfSome, None, Ok, length};
+ghost use Rattle.hex_board.specs.Positions.{is_empty_at};
 ghost use Rattle.hex_found.specs.Found.{IsFound, claim_for};
 
 use super::refusals::Memory;
@@ -8,7 +9,7 @@ use super::seeking::{Sought, seek};
 use cert_check::check;
 use conn_store::Kind;
 use hex_board::Board;
-use hex_cells::{CellSet, Colour};
+use hex_cells::{Cell, CellSet, Colour};
 use std::alloc::Global;
 use win_cert::{Cert, Verdict, is_writable, version_for};
 
@@ -27,6 +28,8 @@ pub struct Findings {
     pub found: Option<Found>,
     /// How many states were entered, whatever was found.
     pub entered: u64,
+    /// The cell that the search would have tried next, if it entered the position.
+    pub best: Option<Cell>,
 }
 
 /// A certificate of who wins the position, of at most so many lines, found by entering at most
@@ -45,13 +48,23 @@ pub fn find(
     ensures found { IfOk result (λ r. IfSome r.found (IsFound board.now mover)) }
     ensures few { IfOk result (λ r. IfSome r.found (λ found. length found.cert.lines ≤ most)) }
     ensures within { IfOk result (λ r. r.entered ≤ budget) }
+    ensures empty { IfOk result (λ r. IfSome r.best (λ cell. is_empty_at board.now cell ≡ true)) }
 {
-    let Sought { cert, entered, .. } = seek(alloc, board, mover, budget)?;
+    let Sought {
+        cert,
+        entered,
+        best,
+        ..
+    } = seek(alloc, board, mover, budget)?;
     let found = match cert {
         Some(cert) if cert.lines.as_slice().len() <= most => certified(alloc, board, mover, cert)?,
         _ => None,
     };
-    Ok(Findings { found, entered })
+    Ok(Findings {
+        found,
+        entered,
+        best,
+    })
 }
 
 /// What is claimed for a winner: that he wins by moving first, or even with the other to move.

@@ -7,8 +7,9 @@ use hex_cells::{Cell, CellSet, Colour};
 use indexmap::IndexMap;
 use std::alloc::{AllocError, Global};
 
-/// The most needs of a draft, and so the most scopes: no certificate has more lines.
-pub(crate) const MOST_NEEDS: usize = 1_000_000;
+/// The most needs of a draft, and so the most scopes. A certificate has fewer lines, since a fact
+/// is written once.
+pub(crate) const MOST_NEEDS: usize = 4_000_000;
 
 /// A line of a scope, by the list where it stands, and its place there.
 #[derive(Clone, Copy, Debug, PartialEq, Eq)]

@@ -30,15 +30,15 @@
 //! **What is proved.** [`find`] and [`certified`] answer certificates that are found
 //! (specs/Found.antt), so that their player wins: by `cert_check`, whatever the search said; and
 //! the carriers of what they claim. Those of [`find`] have at most so many lines. That [`seek`]
-//! and [`find`] count at most the budget of states, whatever they find, and that each call is safe
-//! and ends.
+//! and [`find`] count at most the budget of states, whatever they find, and name an empty cell if
+//! they name one as the best; and that each call is safe and ends.
 //!
 //! **What is only tested, or not said.** That something is found, how soon, and by how many lines;
-//! that each state is counted; that calls get their memory. A body of [`find`] or [`certified`]
-//! that never finds a certificate, or of any call that memory ran out, is proved, and refused by
-//! the tests (board_tests, of_hex_found).
+//! that a cell is named, and which; that each state is counted; that calls get their memory. A body
+//! of [`find`] or [`certified`] that never finds a certificate, or of any call that memory ran out,
+//! is proved, and refused by the tests (board_tests, of_hex_found).
 //!
-//! **Limits.** Those of `edge_tables`, `hex_scout` and `win_cert`; 1,000,000 scopes or needs while
+//! **Limits.** Those of `edge_tables`, `hex_scout` and `win_cert`; 4,000,000 scopes or needs while
 //! a certificate is made.
 //!
 //! **Why so.**

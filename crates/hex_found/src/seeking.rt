@@ -1,6 +1,7 @@
 //! The search for a certificate: who wins, and what shows it.
 
-ghost use Rattle.std.specs.Prelude.{◌≡◌, ◌≤◌, IfOk};
+ghost use Rattle.std.specs.Prelude.{◌≡◌, ◌≤◌, true, IfOk, IfSome, None};
+ghost use Rattle.hex_board.specs.Positions.{is_empty_at};
 
 use super::assemblies::assemble;
 use super::derivers::Deriver;
@@ -9,18 +10,20 @@ use super::refusals::Memory;
 use super::writing::cert_of;
 use edge_tables::FinderStop;
 use hex_board::Board;
-use hex_cells::Colour;
+use hex_cells::{Cell, Colour};
 use hex_scout::{Search, State};
 use std::alloc::Global;
 use win_cert::Cert;
 
-/// What a search found. No clause says that it is so, but for the budget.
+/// What a search found. No clause says that it is so, but for the budget and the best cell.
 #[derive(Debug, Drop)]
 pub struct Sought {
     /// Whether the player to move wins, if the search came to an end.
     pub by_mover: Option<bool>,
     /// How many states it entered.
     pub entered: u64,
+    /// The cell that it would have tried next, if it entered the position.
+    pub best: Option<Cell>,
     /// The certificate, not yet checked.
     pub cert: Option<Cert>,
 }
@@ -31,6 +34,8 @@ pub struct Sought {
 /// A body that enters none, and finds nothing, is proved; tests tell how many are entered.
 pub fn seek(alloc: Global, board: &Board, mover: Colour, budget: u64) -> Result<Sought, Memory>
     ensures within { IfOk result (λ (s : Sought). s.entered ≤ budget) }
+    ensures empty { IfOk result
+        (λ (s : Sought). IfSome s.best (λ cell. is_empty_at board.now cell ≡ true)) }
 {
     let root = State {
         board: *board,
@@ -39,6 +44,7 @@ pub fn seek(alloc: Global, board: &Board, mover: Colour, budget: u64) -> Result<
     let mut sought = Sought {
         by_mover: None,
         entered: 0,
+        best: None,
         cert: None,
     };
     if board.winner().is_some() {
@@ -52,8 +58,9 @@ pub fn seek(alloc: Global, board: &Board, mover: Colour, budget: u64) -> Result<
 
 // Decides who wins, and makes a certificate of what that found, if it comes to an end.
 fn search(alloc: Global, root: &State, budget: u64, sought: &mut Sought) -> Result<(), FinderStop>
-    requires none { sought.old.entered ≡ 0 }
+    requires none { (sought.old.entered ≡ 0) × (sought.old.best ≡ None) }
     ensures within { sought.new.entered ≤ budget }
+    ensures empty { IfSome sought.new.best (λ cell. is_empty_at root.now.board cell ≡ true) }
 {
     if let Some(draft) = drafted(alloc, root, budget, sought)? {
         sought.cert = Some(cert_of(&draft, root)?);
@@ -68,13 +75,15 @@ fn drafted(
     budget: u64,
     sought: &mut Sought,
 ) -> Result<Option<Draft>, FinderStop>
-    requires none { sought.old.entered ≡ 0 }
+    requires none { (sought.old.entered ≡ 0) × (sought.old.best ≡ None) }
     ensures within { sought.new.entered ≤ budget }
+    ensures empty { IfSome sought.new.best (λ cell. is_empty_at root.now.board cell ≡ true) }
 {
     let size = root.board.size();
     let mut search = Search::make(alloc, size)?;
     let outcome = search.decide(root, budget);
     sought.entered = outcome.entered;
+    sought.best = search.best(root);
     sought.by_mover = outcome.by_mover?;
     let player = match sought.by_mover {
         Some(true) => root.mover,

@@ -56,7 +56,8 @@ pub(crate) fn found_plan(
             entered: 0,
         });
     }
-    let Findings { found, entered } = find(alloc, board, colour, u64::from(budget), MOST_LINES)?;
+    let findings = find(alloc, board, colour, u64::from(budget), MOST_LINES)?;
+    let Findings { found, entered, .. } = findings;
     let plan = plan_by(alloc, found, board, colour)?;
     Ok(Attempt { plan, entered })
 }

@@ -8,7 +8,7 @@
 //! elsewhere is answered.
 //!
 //! **A caller** makes a [`Search`] and asks it to [`Search::decide`]; what it found is in its
-//! tables ([`Search::tables`]).
+//! tables ([`Search::tables`]), and [`Search::best`] is the cell that it would try next.
 //!
 //! **How it goes.** A round goes from the root to a state that is new, always to the cell with the
 //! least disproof number, and makes the mover's report there, in which a semi entry ends it, and
@@ -18,14 +18,15 @@
 //! one.
 //!
 //! **What is proved.** That each call is safe and ends, that no more states are counted as entered
-//! than the budget has, and that it is told to be spent only if as many were counted. Nothing of
-//! who wins: `hex_found` makes certificates of what was found, and these are checked.
+//! than the budget has, that it is told to be spent only if as many were counted, and that the best
+//! cell is empty. Nothing of who wins: `hex_found` makes certificates of what was found, and these
+//! are checked.
 //!
 //! **What is only tested, or not said.** Who wins, and how soon that is found; that each state that
 //! is counted was entered. Without a promise, by trial: in which order cells are tried, and
 //! how many are looked at (src/orders.rt).
 //!
-//! **Limits.** 1,000,000 nodes and the entries of `edge_tables`. A full table ends a search like a
+//! **Limits.** 4,000,000 nodes and the entries of `edge_tables`. A full table ends a search like a
 //! spent budget.
 //!
 //! **Why so.**

@@ -3,8 +3,8 @@
 use hex_cells::Cell;
 use indexmap::IndexMap;
 
-/// The most nodes: some 200 MB with their cells.
-pub(crate) const MOST_NODES: usize = 1_000_000;
+/// The most nodes: some 800 MB with their cells.
+pub(crate) const MOST_NODES: usize = 4_000_000;
 
 /// What can't be shown has this number. It is more than any other, and two of them still are a
 /// number of 32 bits.

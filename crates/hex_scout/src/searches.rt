@@ -1,7 +1,8 @@
 //! Proof-number search without recursion. A round goes from the root down to a state that is new,
 //! enters it, and goes back up.
 
-ghost use Rattle.std.specs.Prelude.{◌≡◌, ◌≤◌, None, Ok};
+ghost use Rattle.std.specs.Prelude.{◌≡◌, ◌≤◌, true, IfSome, None, Ok};
+ghost use Rattle.hex_board.specs.Positions.{is_empty_at};
 
 use super::nodes::{Effort, MOST_NODES, NEVER, Nodes, ScoutNode};
 use super::orders::{focus, fresh, sorted};
@@ -64,6 +65,18 @@ impl Search {
             by_mover: self.go_on(root, false),
             entered: budget,
         }
+    }
+
+    /// The cell of the root that is tried next: that after which least is to be decided to show
+    /// that the mover wins, the first of several in the order in which they are tried. There is
+    /// none if the root isn't a node, or no reply is left.
+    ///
+    /// A body that names none, or any empty cell, is proved; tests tell which is named.
+    pub fn best(&self, root: &State) -> Option<Cell>
+        ensures { IfSome result (λ cell. is_empty_at root.now.board cell ≡ true) }
+    {
+        let (_effort, cell) = self.weigh(root)?;
+        cell.filter(|cell| root.board.empties().has(*cell))
     }
 
     // Rounds until one leads to a state that is new, which is entered if it may be, or it is known

@@ -23,14 +23,14 @@ use Rattle.hex_solve.specs.declared.answers.Solved.TheVariants.{Won, Unknown, To
 -- whoever is told to win does, whatever the other does
 abbrev pub WinnerWins : Position → Colour → Solved → Type 0
 WinnerWins p mover (Won winner cert) = Wins winner p mover
-WinnerWins p mover (Unknown spent own) = Unit {0}
+WinnerWins p mover (Unknown spent own best) = Unit {0}
 WinnerWins p mover (TooLong winner lines) = Wins winner p mover
 WinnerWins p mover (Open full) = Unit {0}
 
 -- a winner's certificate shows it
 abbrev pub WonIsCertified : Position → Colour → Solved → Type 0
 WonIsCertified p mover (Won winner cert) = Certifies p mover winner cert
-WonIsCertified p mover (Unknown spent own) = Unit {0}
+WonIsCertified p mover (Unknown spent own best) = Unit {0}
 WonIsCertified p mover (TooLong winner lines) = Unit {0}
 WonIsCertified p mover (Open full) = Unit {0}
 
@@ -38,7 +38,7 @@ WonIsCertified p mover (Open full) = Unit {0}
 abbrev pub WonIsShort : Position → Colour → Bool → Solved → Type 0
 WonIsShort p mover hsearch (Won winner cert) =
     hsearch ≡ false → length cert.lines ≤ 2 * positions_needed p mover
-WonIsShort p mover hsearch (Unknown spent own) = Unit {0}
+WonIsShort p mover hsearch (Unknown spent own best) = Unit {0}
 WonIsShort p mover hsearch (TooLong winner lines) = Unit {0}
 WonIsShort p mover hsearch (Open full) = Unit {0}
 
@@ -50,7 +50,7 @@ few_cells = 9
 -- search without connections needs; and more cells are empty than a few
 abbrev pub TooLongNeedsMany : Position → Colour → Solved → Type 0
 TooLongNeedsMany p mover (Won winner cert) = Unit {0}
-TooLongNeedsMany p mover (Unknown spent own) = Unit {0}
+TooLongNeedsMany p mover (Unknown spent own best) = Unit {0}
 TooLongNeedsMany p mover (TooLong winner lines) =
     (MOST_LINES < lines) × (lines ≤ 2 * positions_needed p mover) × (few_cells < empty_count p)
 TooLongNeedsMany p mover (Open full) = Unit {0}
@@ -59,7 +59,7 @@ TooLongNeedsMany p mover (Open full) = Unit {0}
 -- the greatest number of 64 bits
 abbrev pub TooLongIsCounted : Position → Colour → Solved → Type 0
 TooLongIsCounted p mover (Won winner cert) = Unit {0}
-TooLongIsCounted p mover (Unknown spent own) = Unit {0}
+TooLongIsCounted p mover (Unknown spent own best) = Unit {0}
 TooLongIsCounted p mover (TooLong winner lines) =
     lines < 2 ^ 64 - 1 → lines ≡ lines_needed winner p mover
 TooLongIsCounted p mover (Open full) = Unit {0}
@@ -79,10 +79,22 @@ IsOwnReport p mover false own = own ≡ None
 -- the budget is spent, and the search needs more
 abbrev pub UnknownNeedsMore : Position → Colour → Bool → ℕ → Solved → Type 0
 UnknownNeedsMore p mover hsearch budget (Won winner cert) = Unit {0}
-UnknownNeedsMore p mover hsearch budget (Unknown spent own) =
+UnknownNeedsMore p mover hsearch budget (Unknown spent own best) =
     (spent ≡ budget) × (budget < positions_needed p mover) × IsOwnReport p mover hsearch own
 UnknownNeedsMore p mover hsearch budget (TooLong winner lines) = Unit {0}
 UnknownNeedsMore p mover hsearch budget (Open full) = Unit {0}
+
+-- the cell that is thought best is empty; there is none only if no cell is
+abbrev pub IsBest : Position → Option ℕ → Type 0
+IsBest p (Some cell) = is_empty_at p cell ≡ true
+IsBest p None = (k : ℕ) → is_empty_at p k ≡ false
+
+-- the cell that is told if the winner isn't
+abbrev pub BestIsEmpty : Position → Solved → Type 0
+BestIsEmpty p (Won winner cert) = Unit {0}
+BestIsEmpty p (Unknown spent own best) = IsBest p best
+BestIsEmpty p (TooLong winner lines) = Unit {0}
+BestIsEmpty p (Open full) = Unit {0}
 
 -- the board is full, keeps the stones of p, and nobody is joined on it
 pub record IsOpenBoard (p full : Position) : Type 0 where
@@ -93,6 +105,6 @@ pub record IsOpenBoard (p full : Position) : Type 0 where
 -- an open board is one
 abbrev pub OpenIsFull : Position → Solved → Type 0
 OpenIsFull p (Won winner cert) = Unit {0}
-OpenIsFull p (Unknown spent own) = Unit {0}
+OpenIsFull p (Unknown spent own best) = Unit {0}
 OpenIsFull p (TooLong winner lines) = Unit {0}
 OpenIsFull p (Open full) = IsOpenBoard p full

@@ -17,14 +17,15 @@
 //! who has won has the version that its lines need, can be written, is accepted, and is of this
 //! board, for him.
 //! It is unknown who wins only if the budget is below the positions needed, and these are at most
-//! bound ([`positions_are_bounded`]). A certificate is too long only if more than nine cells are
-//! empty. How many lines it has is told: those of the winner, at most two for each position needed
+//! bound ([`positions_are_bounded`]). A cell that is told as the best then is empty, and there is
+//! one if any is empty. A certificate is too long only if more than nine cells are empty. How many
+//! lines it has is told: those of the winner, at most two for each position needed
 //! (specs/Solved.antt and Deciding.antt).
 //!
 //! **What is only tested, or not said.** That calls get their memory; the time. That connections
 //! make the search shorter, beyond a semi entry between the mover's edges at the root, and that the
-//! search with connections gets the budget and no more. That a full board has a winner:
-//! [`Solved::Open`] would show one that has none.
+//! search with connections gets the budget and no more; which empty cell is told as the best. That
+//! a full board has a winner: [`Solved::Open`] would show one that has none.
 //!
 //! **Limits.** Those of `win_cert` and `hex_found`: a certificate has at most 200,000 lines, or
 //! 1,000,000 if some are lifts. The plain search has two ledgers of at most 200,000.

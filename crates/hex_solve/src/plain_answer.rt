@@ -5,6 +5,7 @@ ghost use Rattle.hex_board.specs.Joined.{winner_of};
 ghost use Rattle.conn_store.specs.Stores.{StoreData};
 ghost use Rattle.hex_solve.specs.PlainSearch.{IsSearchEnd};
 ghost use Rattle.hex_solve.specs.PlainAnswer.{IsPlainAnswer, IsToldBy};
+ghost use Rattle.hex_solve.specs.Solved.{IsBest};
 
 use super::answers::Solved;
 use super::ledgers::Ledger;
@@ -12,21 +13,23 @@ use super::plain_search::{SearchEnd, position};
 use super::refusals::Memory;
 use conn_store::Kind;
 use hex_board::Board;
-use hex_cells::Colour;
+use hex_cells::{Cell, Colour};
 use hsearch::Report;
 use std::alloc::Global;
 
 /// Who wins the board, on which nobody is joined, with `mover` to place: by a search that tries the
-/// cells in rising order and enters at most `budget` positions. If it is unknown, the report is
-/// handed on.
+/// cells in rising order and enters at most `budget` positions. If it is unknown, the report and
+/// the best cell are handed on.
 pub(crate) fn search_plainly(
     alloc: Global,
     board: &Board,
     mover: Colour,
     own: Option<Report>,
+    best: Option<Cell>,
     budget: u64,
 ) -> Result<Solved, Memory>
-    requires { winner_of board.now ≡ None }
+    requires nobody { winner_of board.now ≡ None }
+    requires best { IsBest board.now best }
     ensures { IfOk result (IsPlainAnswer board.now mover own budget) }
 {
     let mut mine = Ledger::make(alloc, board, mover);
@@ -40,7 +43,7 @@ pub(crate) fn search_plainly(
                 Ok(told(board, mover, theirs, Kind::Full, found.line))
             }
         }
-        Err(stop) => stopped(board, mover, own, budget, stop),
+        Err(stop) => stopped(board, mover, own, best, budget, stop),
     }
 }
 
@@ -49,14 +52,20 @@ fn stopped(
     board: &Board,
     mover: Colour,
     own: Option<Report>,
+    best: Option<Cell>,
     budget: u64,
     stop: SearchEnd,
 ) -> Result<Solved, Memory>
-    requires { IsSearchEnd board.now mover budget stop }
+    requires end { IsSearchEnd board.now mover budget stop }
+    requires best { IsBest board.now best }
     ensures { IfOk result (IsPlainAnswer board.now mover own budget) }
 {
     match stop {
-        SearchEnd::Spent => Ok(Solved::Unknown { spent: budget, own }),
+        SearchEnd::Spent => Ok(Solved::Unknown {
+            spent: budget,
+            own,
+            best,
+        }),
         SearchEnd::Open(full) => Ok(Solved::Open { full }),
         SearchEnd::Memory => Err(Memory),
     }

@@ -1,11 +1,12 @@
 //! The solver.
 
-ghost use Rattle.std.specs.Prelude.{◌≡◌, IfNone, IfOk, IfSome, None, Some};
+ghost use Rattle.std.specs.Prelude.{◌≡◌, true, IfNone, IfOk, IfSome, None, Some};
 ghost use Rattle.hex_board.specs.Joined.{winner_of};
-ghost use Rattle.hex_board.specs.Positions.{IsPosition};
+ghost use Rattle.hex_board.specs.Positions.{IsPosition, is_empty_at};
 ghost use Rattle.hsearch.specs.Closed.{IsReportOf};
 ghost use Rattle.hex_found.specs.Found.{IsCertifiedWinner};
-ghost use Rattle.hex_solve.specs.Solved.{IsUndecided, OpenIsFull, TooLongIsCounted};
+ghost use Rattle.hex_solve.specs.Solved.{BestIsEmpty, IsBest, IsUndecided, OpenIsFull};
+ghost use Rattle.hex_solve.specs.Solved.{TooLongIsCounted};
 ghost use Rattle.hex_solve.specs.Solved.{TooLongNeedsMany, UnknownNeedsMore, WinnerWins};
 ghost use Rattle.hex_solve.specs.Solved.{WonIsCertified, WonIsShort};
 ghost use Rattle.hex_solve.specs.PlainAnswer.{IsSolverAnswer};
@@ -15,8 +16,8 @@ use super::plain_answer::search_plainly;
 use super::refusals::Memory;
 use conn_store::Kind;
 use hex_board::Board;
-use hex_cells::Colour;
-use hex_found::{Found, find};
+use hex_cells::{Cell, Colour};
+use hex_found::{Findings, Found, find};
 use hsearch::{Report, connect};
 use std::alloc::Global;
 use win_cert::{Cert, MOST_LATEST_LINES, accepted_certificates_win, cut, edge_numbers, raise};
@@ -31,8 +32,8 @@ use win_cert::{Cert, MOST_LATEST_LINES, accepted_certificates_win, cut, edge_num
 ///
 /// It answers the winner with a certificate of the version that its lines need, or with the number
 /// of lines if the certificate of the search without connections has too many. Or it answers that
-/// the budget is spent, or a full board on which nobody is joined, if there is one. It refuses only
-/// if memory runs out.
+/// the budget is spent, with an empty cell that it thinks best, or a full board on which nobody is
+/// joined, if there is one. It refuses only if memory runs out.
 pub fn solve(
     alloc: Global,
     board: &Board,
@@ -45,12 +46,13 @@ pub fn solve(
     ensures won { IfOk result (WonIsCertified board.now mover) }
     ensures short { IfOk result (WonIsShort board.now mover hsearch) }
     ensures unknown { IfOk result (UnknownNeedsMore board.now mover hsearch budget) }
+    ensures best { IfOk result (BestIsEmpty board.now) }
     ensures too_long { IfOk result (TooLongNeedsMany board.now mover) }
     ensures counted { IfOk result (TooLongIsCounted board.now mover) }
     ensures open { IfOk result (OpenIsFull board.now) }
 {
     if !hsearch {
-        return search_plainly(alloc, board, mover, None, budget);
+        return search_plainly(alloc, board, mover, None, best_of(board, None), budget);
     }
     let own = connect(alloc, board, mover)?;
     match by_connections(alloc, board, mover, &own)? {
@@ -74,12 +76,27 @@ fn search_both(
     requires { winner_of board.now ≡ None }
     ensures { IfOk result (IsSolverAnswer board.now mover (Some own) budget) }
 {
-    match find(alloc, board, mover, budget, MOST_LATEST_LINES)?.found {
+    let Findings { found, best, .. } = find(alloc, board, mover, budget, MOST_LATEST_LINES)?;
+    match found {
         Some(Found { cert, carrier: _ }) => Ok(Solved::Won {
             winner: cert.player,
             cert,
         }),
-        None => search_plainly(alloc, board, mover, Some(own), budget),
+        None => {
+            let best = best_of(board, best);
+            search_plainly(alloc, board, mover, Some(own), best, budget)
+        }
+    }
+}
+
+// The cell that is thought best; the first empty one if there is none.
+fn best_of(board: &Board, thought: Option<Cell>) -> Option<Cell>
+    requires { IfSome thought (λ cell. is_empty_at board.now cell ≡ true) }
+    ensures { IsBest board.now result }
+{
+    match thought {
+        Some(cell) => Some(cell),
+        None => board.empties().least(),
     }
 }
 

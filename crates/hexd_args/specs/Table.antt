@@ -5,7 +5,7 @@ use Rattle.option_words.specs.Command.{app_of_form}
 use Rattle.option_words.specs.Grammar.{Form, OptionTable}
 use Rattle.hexd_args.specs.declared.table.TheConstants.{SIZE, WORKERS, PLAYOUTS, SEED, WORDS}
 use Rattle.hexd_args.specs.declared.table.TheConstants.{EXPAND, WEIGHT, HSEARCH, STEPS, BUDGET}
-use Rattle.hexd_args.specs.declared.table.TheConstants.{SOLVE, LOOK, TRACE}
+use Rattle.hexd_args.specs.declared.table.TheConstants.{SOLVE, LOOK, BEST, TRACE}
 
 -- the options, each with its default; `trace` has none
 abbrev pub hexd_table : OptionTable
@@ -21,6 +21,7 @@ hexd_table = (SIZE.0.now, SIZE.1.now ∷ [])
     ∷ (LOOK.0.now, LOOK.1.now ∷ [])
     ∷ (STEPS.0.now, STEPS.1.now ∷ [])
     ∷ (BUDGET.0.now, BUDGET.1.now ∷ [])
+    ∷ (BEST.0.now, BEST.1.now ∷ [])
     ∷ (TRACE.now, [])
     ∷ []
 

@@ -10,7 +10,7 @@ use Rattle.hexd_args.specs.declared.settings.Mode.TheVariants.{Bench, Solve}
 use Rattle.hexd_args.specs.declared.settings.Options.{Options}
 use Rattle.hexd_args.specs.declared.table.TheConstants.{SIZE, WORKERS, PLAYOUTS, SEED, WORDS}
 use Rattle.hexd_args.specs.declared.table.TheConstants.{EXPAND, WEIGHT, HSEARCH, STEPS, BUDGET}
-use Rattle.hexd_args.specs.declared.table.TheConstants.{SOLVE, LOOK, TRACE}
+use Rattle.hexd_args.specs.declared.table.TheConstants.{SOLVE, LOOK, BEST, TRACE}
 
 -- the word that names a mode
 abbrev pub mode_word : Mode → TextBytes
@@ -41,6 +41,7 @@ pub record AreOptions (value : TextBytes → Option TextBytes) (o : Options) : T
   pub look : IsNumberFrom LOOK.2 LOOK.3 (value LOOK.0.now) o.look
   pub steps : IsNumberFrom STEPS.2 STEPS.3 (value STEPS.0.now) o.steps
   pub budget : IsNumberFrom BUDGET.2 BUDGET.3 (value BUDGET.0.now) o.budget
+  pub best : value BEST.0.now ≡ Some (switch_word o.best)
   pub trace : value TRACE.now ≡ o.trace
   pub trace_is_named : o.trace ≢ Some []
 

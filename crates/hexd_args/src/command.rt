@@ -5,7 +5,7 @@ ghost use Rattle.clap.specs.Words.{app_of};
 ghost use Rattle.hexd_args.specs.Table.{hexd_app};
 
 use crate::table::{
-    BUDGET, EXPAND, HSEARCH, LOOK, PLAYOUTS, SEED, SIZE, SOLVE, STEPS, TRACE, WEIGHT, WORDS,
+    BEST, BUDGET, EXPAND, HSEARCH, LOOK, PLAYOUTS, SEED, SIZE, SOLVE, STEPS, TRACE, WEIGHT, WORDS,
     WORKERS,
 };
 use clap::Command;
@@ -30,6 +30,7 @@ pub fn command<'a>(alloc: Global) -> Result<Command<'a>, AllocError>
         (LOOK.0, Some(LOOK.1)),
         (STEPS.0, Some(STEPS.1)),
         (BUDGET.0, Some(BUDGET.1)),
+        (BEST.0, Some(BEST.1)),
         (TRACE, None),
     ];
     command_with(alloc, true, &options)

@@ -7,7 +7,7 @@
 ghost use Rattle.std.specs.Prelude.{◌≡◌, codes};
 
 use crate::table::{
-    BUDGET, EXPAND, HSEARCH, LOOK, PLAYOUTS, SEED, SIZE, SOLVE, STEPS, TRACE, WEIGHT, WORDS,
+    BEST, BUDGET, EXPAND, HSEARCH, LOOK, PLAYOUTS, SEED, SIZE, SOLVE, STEPS, TRACE, WEIGHT, WORDS,
     WORKERS,
 };
 
@@ -36,5 +36,6 @@ pub fn options_are_those_of_the_manual()
     ensures steps_range { (STEPS.2 ≡ 0) × (STEPS.3 ≡ 1000000) }
     ensures budget { (BUDGET.0.now ≡ codes "budget") × (BUDGET.1.now ≡ codes "1000000") }
     ensures budget_range { (BUDGET.2 ≡ 1) × (BUDGET.3 ≡ 18446744073709551615) }
+    ensures best { (BEST.0.now ≡ codes "best") × (BEST.1.now ≡ codes "off") }
     ensures trace { TRACE.now ≡ codes "trace" }
 {}

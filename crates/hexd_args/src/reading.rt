@@ -12,7 +12,7 @@ ghost use Rattle.hexd_args.specs.declared.settings.Options.{Options};
 use crate::command::command;
 use crate::modes::mode;
 use crate::table::{
-    BUDGET, EXPAND, HSEARCH, LOOK, PLAYOUTS, SEED, SIZE, SOLVE, STEPS, TRACE, WEIGHT, WORDS,
+    BEST, BUDGET, EXPAND, HSEARCH, LOOK, PLAYOUTS, SEED, SIZE, SOLVE, STEPS, TRACE, WEIGHT, WORDS,
     WORKERS,
 };
 use crate::{Memory, Options};
@@ -83,6 +83,7 @@ fn with_trace(matches: &ArgMatches<'_>, trace: Option<Word>) -> Option<Options>
         look: found_number(matches, LOOK)?,
         steps: found_number(matches, STEPS)?,
         budget: found_long_number(matches, BUDGET)?,
+        best: switch(matches.get_str(BEST.0))?,
         trace,
     })
 }

@@ -46,6 +46,8 @@ pub struct Options {
     pub steps: u32,
     /// `BUDGET`.
     pub budget: u64,
+    /// Whether `BEST` is on.
+    pub best: bool,
     /// `TRACE`: at least one byte, if there is one.
     pub trace: Option<Word>,
 }

@@ -43,5 +43,9 @@ pub const STEPS: NumberOption = ("steps", "10000", 0, 1_000_000);
 /// `--budget`: how many positions the solver may enter.
 pub const BUDGET: LongNumberOption = ("budget", "1000000", 1, u64::MAX);
 
+/// `--best`: whether the solver names the cell that it thinks best if it is unknown who wins, `on`
+/// or `off`; and its default.
+pub const BEST: (&'static str, &'static str) = ("best", "off");
+
 /// `--trace`: the name of the file for traces. By default there is none.
 pub const TRACE: &str = "trace";

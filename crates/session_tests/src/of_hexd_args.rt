@@ -40,7 +40,9 @@ htp --size=5 --|0|5
 --steps=0 htp|10|0
 --steps=1000000 htp|10|1000000
 --budget=1 htp|11|1
---budget=18446744073709551615 htp|11|18446744073709551615";
+--budget=18446744073709551615 htp|11|18446744073709551615
+--best=on htp|12|1
+--best off htp|12|0";
 
 // Lines that ask for a trace, and its name.
 static TRACED: &str = "--trace t htp|t
@@ -161,7 +163,7 @@ fn read(alloc: Global, line: &str) -> Result<CommandLine, Memory> {
     CommandLine::read(alloc, words_of(alloc, line)?)
 }
 
-fn numbers(options: &Options) -> [u64; 12] {
+fn numbers(options: &Options) -> [u64; 13] {
     [
         options.size.get() as u64,
         options.knobs.workers as u64,
@@ -175,13 +177,14 @@ fn numbers(options: &Options) -> [u64; 12] {
         options.look as u64,
         options.steps as u64,
         options.budget,
+        options.best as u64,
     ]
 }
 
 // The defaults with one number at its place.
-fn expected(place: usize, number: u64) -> [u64; 12] {
+fn expected(place: usize, number: u64) -> [u64; 13] {
     let mut numbers = [
-        11, 1, 10_000, 0, 4_194_304, 8, 180, 1, 0, 0, 10_000, 1_000_000,
+        11, 1, 10_000, 0, 4_194_304, 8, 180, 1, 0, 0, 10_000, 1_000_000, 0,
     ];
     if let Some(here) = numbers.get_mut(place) {
         *here = number;

@@ -6,6 +6,8 @@ use std::test::Fail;
 
 static ANSWERS: &str = "\
 budget-one|solve --hsearch off --budget 1|(;GM[11]SZ[2])|0|unknown 1~
+first-empty-cell|solve --best on --hsearch off --budget 1|(;GM[11]SZ[2];B[a1])|0|unknown 1~best b1~
+no-best-cell|solve --best off --hsearch off --budget 1|(;GM[11]SZ[2];B[a1])|0|unknown 1~
 over-already|solve|(;GM[11]SZ[1];B[a1])|0|over black~
 no-record|solve||1|not a game~";
 
@@ -14,6 +16,7 @@ no-record|solve||1|not a game~";
 static WON: &str = "\
 budget-for-four-cells|solve --hsearch off --budget 65|(;GM[11]SZ[2])|won black~|hexcert 2~|yes semi~
 the-other-moves|solve|(;GM[11]SZ[2];B[a2])|won black~|hexcert 2~|yes full~
+no-best-cell-of-a-win|solve --best on|(;GM[11]SZ[2];B[a2])|won black~|hexcert 2~|yes full~
 found-for-the-other|solve|(;GM[11]SZ[4];B[d1])|won black~|hexcert 4~|yes full~
 found-for-the-mover|solve|(;GM[11]SZ[4];B[d2])|won white~|hexcert 3~|yes semi~
 semi-at-the-root|solve --budget 1|(;GM[11]SZ[4]AB[a1][a2][a3])|won black~|hexcert 2~|yes semi~";

@@ -11,7 +11,7 @@ use Rattle.hex_cli.specs.AuditTexts.{IsAuditText}
 use Rattle.hex_cli.specs.CertTexts.{IsCheckText, IsMigrateText}
 use Rattle.hex_cli.specs.Determined.{Determines}
 use Rattle.hex_cli.specs.Headline.{HasHeadline}
-use Rattle.hex_cli.specs.Modes.{AnswersBy, HandsInBy, kind_of}
+use Rattle.hex_cli.specs.Modes.{AnswersBy, HandsInBy, kind_of, solve_options}
 use Rattle.hex_cli.specs.Playing.{HasGoodTurns, HasKnownThreats, HasPlayed}
 use Rattle.hex_cli.specs.SolveTexts.{IsSolveText}
 use Rattle.hex_cli.proofs.Doings.{idle_unarchived, idle_unfetched}
@@ -84,7 +84,7 @@ returns-clause-audited g c =
 
 pub returns-clause-solved : goal.returns-clause-solved
 returns-clause-solved g c =
-    in_mode (λ o. AnswersBy (IsSolveText o.hsearch o.budget)) Solve c.args.line.now
+    in_mode (λ o. AnswersBy (IsSolveText (solve_options o))) Solve c.args.line.now
     c.status.result c.serve-end.result
     c.args.devices.now c.serve-end.new.devices c.status.ensures c.serve-end.ensures.does
     (λ o end d. d)
