@@ -90,7 +90,8 @@ class Reports(unittest.TestCase):
         self.assertEqual([int] * 6, [type(number) for counts in search.values() for number in counts.values()])
         self.assertEqual({**stones, "to_move": "white", "winner": None, "solved": "black", "best": lost["best"], "plan": "lost",
                           "allowed": ["a1", "b1", "b2"], "threats": [["a1"], ["b1"]], "search": search,
-                          "certificate": certificates[1], "checked": "yes full", "may_swap": True, "played": {"colour": "white", "move": "a1"}}, lost)
+                          "certificate": certificates[1], "checked": "yes full", "may_swap": True,
+                          "played": {"colour": "white", "move": "a1"}}, lost)
         self.assertEqual({"black": ["a2"], "white": ["a1"], "to_move": "black", "winner": None, "solved": "black", "best": "b1",
                           "plan": "win", "allowed": ["b1"], "threats": [], "search": {}, "certificate": certificates[2],
                           "checked": "yes semi", "may_swap": False, "played": None}, last)

@@ -7,11 +7,19 @@ use Rattle.conn_store.specs.declared.entries.Held.{Held}
 use Rattle.conn_store.specs.declared.entries.Kind.{Kind}
 use Rattle.conn_store.specs.declared.entries.Kind.TheVariants.{Full, Semi}
 use Rattle.win_cert.specs.Cuts.{AreEdgeNumbers, HasEdgeEntryAt}
+use Rattle.std.proofs.lemmas.Option.{slice_get_within}
+use Rattle.hex_plan.specs.Planning.{AreWithin}
 use Rattle.hex_plan.specs.Plans.{IsEdgeEntry}
 
 pub first_there : (d : StoreData) (kind : Kind) (h : Held) → AreEdgeNumbers d kind h → 0 < h.count
     → HasEdgeEntryAt d (slice_index h.at 0)
 first_there d kind h g l = let w = g.each 0 l in (w.0, w.1)
+
+-- each number is one of an entry
+pub each_within : (d : StoreData) (kind : Kind) (h : Held) → AreEdgeNumbers d kind h
+    → AreWithin d.entries h
+each_within d kind h g j l = let w = g.each j l in
+    slice_get_within d.entries (slice_index h.at j) w.0 w.1.0
 
 none_there : (d : StoreData) (kind : Kind) (h : Held) → AreEdgeNumbers d kind h → h.count ≤ 0
     → (a : Entry) → IsEdgeEntry d a → a.kind ≡ kind → ⊥

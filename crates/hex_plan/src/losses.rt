@@ -59,14 +59,15 @@ fn loss_by(
 fn draft_of(alloc: Global, report: &Report) -> Result<Cert, Memory>
     requires { are_joined report.now.elements ≡ false }
 {
-    let full = edge_numbers(report.store(), Kind::Full);
+    let store = report.store();
+    let full = edge_numbers(store, Kind::Full);
     if 0 < full.count {
         let mut cert = cut(alloc, report, full.at[0])?;
         cert.version = version_for(cert.lines.as_slice());
         return Ok(cert);
     }
-    let semi = edge_numbers(report.store(), Kind::Semi);
-    let needed = needed_of(alloc, report.store(), &semi)?;
+    let semi = edge_numbers(store, Kind::Semi);
+    let needed = needed_of(alloc, store, &semi)?;
     Ok(draft_or(alloc, report, needed.as_slice())?)
 }
 
