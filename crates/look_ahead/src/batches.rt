@@ -25,7 +25,7 @@ impl Look {
     {
         let count = self.go_down(colour, most);
         judge_all(rt, &mut self.judges, count, &self.pool);
-        'results: for number in 0..most {
+        'results: for number in 0..count.min(most) {
             self.take(alloc, number)?;
         }
         Ok(())
