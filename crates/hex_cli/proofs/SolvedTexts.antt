@@ -1,5 +1,5 @@
 -- What a solver says of a game's board.
-use Rattle.std.proofs.Common.{Bool, ℕ, ◌≡◌, ap, subst, sym, Some, None}
+use Rattle.std.proofs.Common.{Bool, ℕ, ◌≡◌, subst, Some, None}
 use Rattle.hex_cells.specs.declared.colours.Colour.{Colour}
 use Rattle.hex_board.specs.Positions.{Position}
 use Rattle.hex_board.proofs.Placed.{empty_on}

@@ -1,6 +1,6 @@
 //! Mode `solve`: what it answers to the bytes of a record.
 
-ghost use Rattle.std.specs.Prelude.{◌≡◌, ◌⊎◌, ◌++◌, ◌*◌, ◌<◌, IfOk, IfSome, OnOk, codes};
+ghost use Rattle.std.specs.Prelude.{◌≡◌, ◌⊎◌, ◌++◌, ◌*◌, ◌<◌, true, IfOk, IfSome, OnOk, codes};
 ghost use Rattle.std.specs.Fmt.{decimal};
 ghost use Rattle.hex_cells.specs.Colours.{colour_word};
 ghost use Rattle.hex_cells.specs.Vertices.{vertex_of};

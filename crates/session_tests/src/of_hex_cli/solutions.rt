@@ -7,6 +7,7 @@ use std::test::Fail;
 static ANSWERS: &str = "\
 budget-one|solve --hsearch off --budget 1|(;GM[11]SZ[2])|0|unknown 1~
 first-empty-cell|solve --best on --hsearch off --budget 1|(;GM[11]SZ[2];B[a1])|0|unknown 1~best b1~
+best-of-connections|solve --best on --budget 1|(;GM[11]SZ[4];B[d1])|0|unknown 1~best c2~
 no-best-cell|solve --best off --hsearch off --budget 1|(;GM[11]SZ[2];B[a1])|0|unknown 1~
 over-already|solve|(;GM[11]SZ[1];B[a1])|0|over black~
 no-record|solve||1|not a game~";

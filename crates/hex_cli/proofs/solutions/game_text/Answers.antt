@@ -1,9 +1,10 @@
 -- The text for a game.
-use Rattle.std.proofs.Common.{sym, ap, ◌∙◌, inl, inr}
+use Rattle.std.proofs.Common.{sym, ap, subst, ◌∙◌, inl, inr, ℕ}
 use Rattle.std.proofs.lemmas.Result.{IfOk-weaker}
 use Rattle.hex_board.specs.Joined.{winner_of}
-use Rattle.hex_cli.specs.SolveTexts.{next_mover}
-use Rattle.hex_cli.proofs.SolvedTexts.{solved_by, solved_of_game}
+use Rattle.hex_board.specs.Positions.{Position}
+use Rattle.hex_cli.specs.SolveTexts.{CanBeWritten, next_mover, solved_text}
+use Rattle.hex_cli.proofs.SolvedTexts.{can_be_written, solved_by, solved_of_game}
 use Rattle.hex_cli.proofs.solutions.game_text.Goals as goal
 
 pub returns-in-Some : goal.returns-in-Some
@@ -15,6 +16,12 @@ returns-in-Some c =
           ∙ sym c.in-Some.ensures.value,
       e,
     )) c.over_text.ensures
+
+pub text_of-requires : goal.text_of-requires
+text_of-requires c =
+    subst (λ (n : ℕ). CanBeWritten n c.in-Ok.solved) (sym c.size.ensures.value)
+    (can_be_written c.board-board.result.now c.next_to_place-mover.result c.in-Ok.solved
+    c.in-Ok.ensures.won c.in-Ok.ensures.best)
 
 pub returns : goal.returns
 returns c =
@@ -28,5 +35,6 @@ returns c =
           c.next_to_place-mover.result c.in-Ok.solved
           c.in-Ok.ensures.wins c.in-Ok.ensures.won c.in-Ok.ensures.short c.in-Ok.ensures.unknown
           c.in-Ok.ensures.best c.in-Ok.ensures.too_long c.in-Ok.ensures.counted c.in-Ok.ensures.open),
-      e,
+      e ∙ ap (λ (n : ℕ). solved_text c.args.options.now.best n c.in-Ok.solved)
+          (c.size.ensures.value ∙ ap (λ (p : Position). p.size) c.board-board.ensures),
     )) c.text_of.ensures
