@@ -120,6 +120,7 @@ fn take_slot(tree: &Tree, seat: &mut TreeSeat, sums: &mut Sums, word: u32)
     ensures own { IsOf tree.now seat.new }
     ensures view { seat.new.view ≡ seat.old.view }
     ensures debts { HoldsDebts tree.now.shape sums.new seat.new.owed }
+    ensures held { slice_index sums.new.words (slot_of word) ≡ word }
 {
     let i = slot(word);
     give_slot(tree, seat, sums, i);
@@ -139,6 +140,7 @@ fn owe(tree: &Tree, seat: &mut TreeSeat, sums: &mut Sums, word: u32, won: bool)
     ensures debts { HoldsDebts tree.now.shape sums.new seat.new.owed }
     ensures answer { MayAnswer seat.old.view (Add word won) 0 }
     ensures view { seat.new.view ≡ after seat.old.view (Add word won) 0 }
+    ensures words { sums.new.words ≡ sums.old.words }
 {
     let i = slot(word);
     make_room(tree, seat, sums, i);
@@ -147,7 +149,7 @@ fn owe(tree: &Tree, seat: &mut TreeSeat, sums: &mut Sums, word: u32, won: bool)
 }
 
 /// Makes an add to a seen word, or owes it if the word is held back. It answers what the add found,
-/// or 0.
+/// or 0. A word that had [`HOT`] visits is held back from then on, and no other one.
 #[inline(always)]
 pub(crate) fn make_or_owe(tree: &Tree, seat: &mut TreeSeat, sums: &mut Sums, op: Op) -> u64
     requires own { IsOf tree.now seat.old }
@@ -160,6 +162,9 @@ pub(crate) fn make_or_owe(tree: &Tree, seat: &mut TreeSeat, sums: &mut Sums, op:
     ensures debts { HoldsDebts tree.now.shape sums.new seat.new.owed }
     ensures answer { MayAnswer seat.old.view op result }
     ensures view { seat.new.view ≡ after seat.old.view op result }
+    ensures hot { (word : ℕ) (won : Bool) → op ≡ Add word won → HOT ≤ result
+        → slice_index sums.new.words (slot_of word) ≡ word }
+    ensures cold { result < HOT → sums.new.words ≡ sums.old.words }
 {
     let Op::Add(word, won) = op else {
         return seat.act(tree, op);
