@@ -28,6 +28,7 @@ mod Collected
 mod Decides
 mod EdgeNumbers
 mod Lines
+mod Losses
 mod MiddleOf
 mod Middles
 mod PlanLaws
