@@ -28,11 +28,11 @@ mod Collected
 mod Decides
 mod EdgeNumbers
 mod Lines
-mod Losses
 mod MiddleOf
 mod Middles
 mod PlanLaws
 mod Rows
 mod Sought
+mod ShownLosses
 mod SureWins
 mod WinningCells

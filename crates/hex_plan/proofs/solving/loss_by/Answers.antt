@@ -1,6 +1,6 @@
 -- The copy is the threat's certificate.
 use Rattle.std.proofs.Common.{refl}
-use Rattle.hex_plan.proofs.Losses.{found_loss}
+use Rattle.hex_plan.proofs.ShownLosses.{found_loss}
 use Rattle.hex_plan.proofs.solving.loss_by.Goals as goal
 
 pub returns-clause-loss : goal.returns-clause-loss
