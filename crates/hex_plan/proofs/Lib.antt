@@ -33,5 +33,6 @@ mod Middles
 mod PlanLaws
 mod Rows
 mod Sought
+mod ShownLosses
 mod SureWins
 mod WinningCells

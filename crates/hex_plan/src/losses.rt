@@ -1,8 +1,9 @@
 //! Certificates that a board is lost, by the other player's report.
 
-ghost use Rattle.std.specs.Prelude.{◌≡◌, ◌<◌, ◌≤◌, All, false, IfOk, IfSome, length};
+ghost use Rattle.std.specs.Prelude.{◌≡◌, ◌≢◌, ◌<◌, ◌≤◌, All, false, IfOk, IfSome, length};
 ghost use Rattle.conn_store.specs.declared.entries.TheConstants.{MOST_SEMI};
 ghost use Rattle.hex_board.specs.Elements.{are_joined};
+ghost use Rattle.hex_found.specs.Found.{IsFound};
 ghost use Rattle.hex_plan.specs.Plans.{ShowsLoss};
 ghost use Rattle.hex_plan.specs.Planning.{AreWithin, IsLossWhere};
 
@@ -10,7 +11,7 @@ use super::refusals::Memory;
 use conn_store::{Held, Kind, Store};
 use hex_board::Board;
 use hex_cells::{CellSet, Colour};
-use hex_found::certified;
+use hex_found::{Found, certified};
 use hsearch::Report;
 use std::alloc::Global;
 use win_cert::{Cert, cut, draft_or, edge_numbers, version_for};
@@ -48,9 +49,19 @@ fn loss_by(
 {
     let draft = draft_of(alloc, other)?;
     match certified(alloc, board, colour, draft)? {
-        Some(found) if found.cert.player != colour => Ok(Some(found.cert)),
-        _ => Ok(None),
+        None => Ok(None),
+        Some(found) if found.cert.player == colour => Ok(None),
+        Some(found) => Ok(Some(shown_by(found, board, colour))),
     }
+}
+
+// The certificate of the other player that was found.
+fn shown_by(found: Found, board: &Board, colour: Colour) -> Cert
+    requires found { IsFound board.now colour found }
+    requires player { found.cert.player ≢ colour }
+    ensures { ShowsLoss board.now colour result }
+{
+    found.cert
 }
 
 // A draft of a certificate that the player of the report, who is not joined, wins whoever places

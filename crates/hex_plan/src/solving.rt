@@ -99,12 +99,7 @@ fn win_by(found: Found, board: &Board, colour: Colour) -> Option<FoundPlan>
 }
 
 // The search of a board that is lost by a certificate of the other player that was found.
-fn loss_by(
-    alloc: Global,
-    found: Found,
-    board: &Board,
-    colour: Colour,
-) -> Result<FoundPlan, Memory>
+fn loss_by(alloc: Global, found: Found, board: &Board, colour: Colour) -> Result<FoundPlan, Memory>
     requires found { IsFound board.now colour found }
     requires player { found.cert.player ≢ colour }
     ensures plan { IfOk result (λ found. IsFoundPlan board.now colour found.plan) }
