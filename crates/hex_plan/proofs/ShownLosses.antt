@@ -1,5 +1,5 @@
 -- What shows that a board is lost.
-use Rattle.std.proofs.Common.{◌≡◌, refl, sym, ◌∙◌, ap, subst}
+use Rattle.std.proofs.Common.{◌≡◌, refl, sym, ◌∙◌, subst}
 use Rattle.hex_cells.specs.Colours.{other_of}
 use Rattle.hex_cells.specs.declared.colours.Colour.{Colour}
 use Rattle.hex_cells.specs.declared.colours.Colour.TheVariants.{Black, White}
@@ -11,7 +11,7 @@ use Rattle.win_cert.specs.declared.certs.Cert.{Cert}
 use Rattle.win_cert.specs.declared.verdicts.Verdict.TheVariants.{Yes}
 use Rattle.hex_found.specs.Found.{Certifies, IsFound, claim_for}
 use Rattle.hex_found.specs.declared.certificates.Found.{Found}
-use Rattle.hex_plan.specs.Plans.{IsFoundThreat, ShowsLoss}
+use Rattle.hex_plan.specs.Plans.{ShowsLoss}
 
 other_is : (a b : Colour) → (a ≡ b → ⊥) → a ≡ other_of b
 other_is Black Black n = absurd (n refl)

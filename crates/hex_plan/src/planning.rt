@@ -4,7 +4,6 @@ ghost use Rattle.std.specs.Prelude.{◌≡◌, ◌≤◌, ℕ, IfOk, None, true,
 ghost use Rattle.hex_board.specs.Joined.{winner_of};
 ghost use Rattle.hex_board.specs.Positions.{is_empty_at};
 ghost use Rattle.hsearch.specs.Closed.{IsReportOf};
-ghost use Rattle.hex_plan.specs.Planning.{IsFoundFor};
 ghost use Rattle.hex_plan.specs.Plans.{AllowsEmpties, IsConnected, IsEdgeEntry, IsFree, IsPlanned};
 ghost use Rattle.hex_plan.specs.Plans.{IsLossOf, IsPlannedFor};
 ghost use Rattle.hex_plan.specs.Turns.{CanBeWritten};
