@@ -8,7 +8,7 @@ ghost use Rattle.tree_words.specs.Roots.{IsBest};
 ghost use Rattle.tree_words.specs.Settings.{IsSetting};
 ghost use Rattle.hex_plan.specs.Good.{IsGoodAsPlanned, IsGoodAsSearched};
 ghost use Rattle.hex_plan.specs.Plans.{IsPlanned, IsWin, IsWinBy};
-ghost use Rattle.hex_plan.specs.Turns.{CanBeWritten, IsSearchedBy, certificate_of};
+ghost use Rattle.hex_plan.specs.Turns.{CanBeWritten, DecidesBy, IsSearchedBy, certificate_of};
 ghost use Rattle.hex_plan.specs.Turns.{turn_of_search, turn_of_win};
 ghost use Rattle.hex_plan.specs.declared.settings.Means.{Means};
 
@@ -158,6 +158,7 @@ impl Turn {
     /// What was planned.
     pub fn planned(&self) -> &Planned
         ensures value { result.now ≡ self.now.planned }
+        ensures decided { DecidesBy self.now self.now.planned.plan }
         ensures written { CanBeWritten (certificate_of result.now.plan result.now.loss) }
     {
         &self.planned
