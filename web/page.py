@@ -11,6 +11,7 @@ session.js. It makes no request: a policy in the file forbids it, and lets only 
 
 import argparse
 import base64
+import csv
 import gzip
 import hashlib
 import json
@@ -31,8 +32,10 @@ OPENINGS = ROOT / "openings"
 SETTINGS, GUESSED = ROOT / "board" / "settings.json", ROOT / "board" / "guessed.json"
 # What stands in the place of the board's session.js.
 SESSION = [HERE / name for name in ("run.js", "openings.js", "session.js")]
-# The certificates of these sizes are small.
+# The certificates of these sizes are small, and stand in the page; of the others it has the files' names and sums.
 SIZES = "345"
+# Who wins each opening, of whose certificate it is told.
+LIST = OPENINGS / "openings.tsv"
 TRIED = "Chromium 156 and Firefox 153"
 SAID = "What hexd answers is proved; this page, which draws it, is not."
 SAID_HERE = "hexd runs in this page. Its code is proved; how WebAssembly runs it, and the page, are tested alone."
@@ -69,12 +72,23 @@ def openings():
     return {file.name.removesuffix(".cert.xz"): lzma.decompress(file.read_bytes()).decode() for file in certificates()}
 
 
+def sum_of(file):
+    return hashlib.sha256(file.read_bytes()).hexdigest()
+
+
+def listed():
+    """Of the openings whose certificates aren't in the page, by size and cell: who wins, and the sum of the file."""
+    with open(LIST, newline="") as file:
+        winners = {row["opening"]: row["winner"] for row in csv.DictReader(file, delimiter="\t")}
+    return {name: [winner, sum_of(OPENINGS / f"{name}.cert.xz")] for name, winner in winners.items() if name[0] not in SIZES}
+
+
 def sources():
     """The sum of the names and the contents of all that the page is made of."""
     sum_of_all = hashlib.sha256()
-    own = [*SESSION, HERE / "worker.js", HERE / "page.py"]
-    for file in sorted({*build.sources(), *own, *BOARD.iterdir(), SETTINGS, GUESSED, *certificates()}):
-        sum_of_all.update(f"{file.relative_to(ROOT)} {hashlib.sha256(file.read_bytes()).hexdigest()}\n".encode())
+    own = [*SESSION, HERE / "worker.js", HERE / "page.py", LIST, *OPENINGS.glob("*.cert.xz")]
+    for file in sorted({*build.sources(), *own, *BOARD.iterdir(), SETTINGS, GUESSED}):
+        sum_of_all.update(f"{file.relative_to(ROOT)} {sum_of(file)}\n".encode())
     return sum_of_all.hexdigest()
 
 
@@ -128,6 +142,7 @@ def page(module):
         f'<script type="text/plain" id="worker">{(HERE / "worker.js").read_text()}</script>',
         f'<script type="text/plain" id="hexd" {words} data-packed>{packed(module)}</script>',
         f'<script type="text/plain" id="openings" data-packed>{packed(json.dumps(openings()).encode())}</script>',
+        f'<script type="application/json" id="listed">{json.dumps(listed())}</script>',
         f'<script type="application/json" id="given">{settings(None)}</script>',
         *(f"<script>{script}</script>" for script in scripts),
     ]

@@ -20,7 +20,7 @@ function answered(answer) {
 }
 
 class Session {
-  constructor(words, run) { Object.assign(this, {words, run, solving: null}); }
+  constructor(words, run) { Object.assign(this, {words, run, solving: null, checking: null}); }
 
   static async settings() { return SETTINGS; }
 
@@ -41,6 +41,12 @@ class Session {
 
   /** The certificate of an opening of which it is proved who wins. */
   static async certificate(size, vertex) { return certificateOf(size, vertex); }
+
+  /** The SHA-256 of the file with an opening's certificate, if the page has the file's name alone; else null. */
+  static fileSum(size, vertex) { return listedOpening(size, vertex)?.[1] ?? null; }
+
+  /** Takes an opening's certificate that `check` has accepted, and who wins by it, 'black' or 'white'. */
+  static keepCertificate(size, vertex, given) { keepOpening(size, vertex, given); }
 
   /** What stands before the `#` of a link: nothing if the page lies on a disk, which nobody else has. */
   static get address() { return location.protocol === 'file:' ? '' : location.href.replace(/#.*/, ''); }
@@ -76,8 +82,11 @@ class Session {
     await this.ask(`loadsgf ${RECORD}`);
   }
 
-  /** What a second run says of a certificate. */
-  async check(certificate) { return checked(certificate); }
+  /** What a second run says of a certificate; `close` ends it too. */
+  async check(certificate) {
+    this.checking = await Run.start(['check']);
+    return this.checking.all(certificate);
+  }
 
   /** What `hexd solve` says of the position of a record, in a run of its own, which `close` ends too. */
   async solve(record, budget) {
@@ -86,5 +95,5 @@ class Session {
   }
 
   /** Ends the session. Who waits for an answer meets SessionLost. */
-  close() { for (const run of [this.run, this.solving]) run?.stop('it was closed'); }
+  close() { for (const run of [this.run, this.solving, this.checking]) run?.stop('it was closed'); }
 }

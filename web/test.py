@@ -11,9 +11,11 @@ the tests whose names have one of these in them. It needs what board/test.py nee
 import argparse
 import atexit
 import csv
+import hashlib
 import http.server
 import importlib.util
 import io
+import lzma
 import os
 import re
 import shutil
@@ -32,6 +34,7 @@ import build
 import page
 from cases import FILE_NAME, Case, cases, native
 from firefox import FIREFOX, Firefox
+from openings import turned_cell
 from tests.support import until
 
 SYSTEM_PYTHON = "/usr/bin/python3"
@@ -52,7 +55,8 @@ FEW_PAGES = 320
 # Tests of the board's page in the quick form; and those that are of its server.
 OF_BOARD = """test_size_3_by_clicks test_size_11_by_clicks_and_keys_against_hexd test_hexd_against_itself test_swap
 test_a_reload_keeps_what_hexd_said test_save_and_open test_the_table test_what_is_refused_says_why
-test_a_record_of_another_program test_a_certificate_is_opened test_a_certified_win test_the_map_on_an_empty_board
+test_a_record_of_another_program test_a_certificate_is_opened test_against_a_certificate
+test_a_packed_certificate_is_refused test_a_dropped_certificate test_a_certified_win test_the_map_on_an_empty_board
 test_the_answers_of_an_opening test_guesses_on_an_empty_board test_what_is_quoted_is_a_line
 test_a_proof_is_played_to_the_end test_hexd_swaps test_a_game_by_the_clock test_a_saved_game test_live_analysis
 test_moves_are_judged_by_shares test_the_tree_of_moves test_what_was_deleted_lasts_over_a_reload test_a_wrong_move_is_refuted test_one_is_solved""".split()
@@ -319,25 +323,100 @@ class Page(InBrowser):
             self.assertIn("lacks 64-bit memories or suspending of WebAssembly", said, lack)
             self.assertIn(page.TRIED, said)
 
-    def test_openings(self):
-        """Of each opening of the small boards the page says what the folder openings/ has, in both of its cells."""
-        self.open()
+    def winners(self, sizes):
+        """Who wins by the list of openings/, by size and then by cell, of each opening and the opposite one."""
+        found = {size: {} for size in sizes}
         with open(page.OPENINGS / "openings.tsv", newline="") as file:
-            rows = [row for row in csv.reader(file, delimiter="\t") if row and row[0][0] in page.SIZES]
-        self.assertTrue(rows)
-        for name, winner, *_ in rows:
-            size, vertex = name.split("-")
-            self.assertEqual(winner, self.in_page("Session.winner", int(size), vertex), name)
-        self.assertIsNone(self.in_page("Session.winner", 6, "a1"))
-        self.assertIsNone(self.in_page("Session.certificate", 6, "a1"))
+            for name, winner, *_ in csv.reader(file, delimiter="\t"):
+                size, _, vertex = name.partition("-")
+                if size in found:
+                    found[size] |= {vertex: winner, turned_cell(vertex, int(size)): winner}
+        return found
 
-    def test_openings_that_are_not_here(self):
-        """Of sizes whose certificates aren't in the page it says so; where nothing is proved it has guesses."""
-        browser = self.open(f"{self.small.as_uri()}#6")
-        until(lambda: "They are not in this page" in browser.text("#words"), "the page says that certificates are elsewhere")
-        self.assertEqual(0, len(browser.all(".opening")))
-        browser = self.open(f"{self.small.as_uri()}#9")
-        self.assertEqual(81, len(browser.all(".guess")))
+    def marked(self):
+        """The map on the board: who wins after each first stone that has a mark."""
+        named = {"b": "black", "w": "white"}
+        return {vertex: named[colour] for colour in named
+                for vertex in self.browser.vertices(f"[data-vertex]:has(.opening.{colour})")}
+
+    def give(self, name, content):
+        """Opens a file by the page's button."""
+        given = self.folder / name
+        given.write_bytes(content)
+        self.browser.find("#open").send_keys(str(given))
+
+    def said(self, text, css="#words"):
+        until(lambda: text in self.browser.text(css), text)
+
+    def test_openings(self):
+        """Of each opening the page says what the folder openings/ has, in both of its cells."""
+        self.open()
+        for size, winners in self.winners("34567").items():
+            self.assertEqual(int(size) ** 2, len(winners))
+            for vertex, winner in winners.items():
+                self.assertEqual(winner, self.in_page("Session.winner", int(size), vertex), (size, vertex))
+                self.assertEqual(size in page.SIZES, self.in_page("Session.certificate", int(size), vertex) is not None)
+
+    def test_the_map_of_a_large_board(self):
+        """Up to 7 by 7 the map is the list's; of what isn't in the page it names the file and its sum. Then come guesses."""
+        for size, winners in self.winners("67").items():
+            browser = self.open(f"{self.small.as_uri()}#{size}")
+            until(lambda: len(browser.all(".opening")) == len(winners), "the map is there")
+            self.assertEqual(winners, self.marked())
+            self.said(f"Of {len(winners)} the certificate is not in this page, which has not checked it")
+        browser.choose("#player-w", "I")
+        for vertex, of in (("a1", ""), ("g7", ", of the board turned by half a circle")):
+            browser.click("#new")
+            browser.cell(vertex)
+            self.said(f"Proved: after Black's {vertex} White wins; a swap gives the win away.")
+            sums = hashlib.sha256((page.OPENINGS / "7-a1.cert.xz").read_bytes()).hexdigest()
+            self.said(f"it is the file openings/7-a1.cert.xz of hexd's sources{of}, with the SHA-256 {sums}. "
+                      "To check it: xz -dc openings/7-a1.cert.xz | bin/hexd check")
+            self.assertNotIn("By the certificate", browser.text("#words"))
+        browser = self.open(f"{self.small.as_uri()}#8")
+        self.assertEqual(64, len(browser.all(".guess")))
+
+    def test_a_certificate_of_a_large_board(self):
+        """One that is given is checked here; then its answers are shown, also after the opposite first stone."""
+        browser = self.open(f"{self.small.as_uri()}#7")
+        certificate = lzma.decompress((page.OPENINGS / "7-f2.cert.xz").read_bytes())
+        self.give("7-f2.cert", certificate)
+        until(lambda: self.moves() == ["f2"], "the opening is shown")
+        self.said("By the certificate Black answers a1 by ")
+        self.said("hexd check accepts it, in a run of its own.", "#checked")
+        self.assertNotIn("not in this page", browser.text("#words"))
+        replies = browser.vertices("[data-vertex]:has(.reply)")
+        self.assertIn(len(replies), range(1, 49))
+        # hexd plays the winner, until one says otherwise.
+        browser.choose("#player-b", "I")
+        browser.click("#new")
+        self.said("Of 47 the certificate is not in this page")
+        self.assertEqual(self.winners("7")["7"], self.marked())
+        browser.cell("b6")
+        self.said("By the certificate Black answers ")
+        self.said("Its certificate: openings/7-f2.cert.xz, of the board turned by half a circle.")
+        self.assertEqual({turned_cell(vertex, 7) for vertex in replies}, set(browser.vertices("[data-vertex]:has(.reply)")))
+        # A reload keeps a game, and what was said of it.
+        browser.back()
+        self.said("By the certificate Black answers a1 by ")
+        browser.reload()
+        self.said("By the certificate Black answers a1 by ")
+
+    def test_a_certificate_that_is_cut(self):
+        """What is no whole certificate of an opening changes nothing."""
+        browser = self.open(f"{self.small.as_uri()}#7")
+        certificate = lzma.decompress((page.OPENINGS / "7-f2.cert.xz").read_bytes())
+        lines = certificate.split(b"\n")
+        cut = (certificate[: len(certificate) // 2], b"\n".join(lines[:200]), b"\n".join([*lines[:200], lines[-2], b""]))
+        for content in cut:
+            self.give("7-f2.cert", content)
+            self.said("hexd: the certificate is refused: ", "#said")
+            browser.ready()
+            self.assertEqual([], self.moves())
+            self.said("Of 49 the certificate is not in this page")
+        self.give("7-f2.cert.xz", (page.OPENINGS / "7-f2.cert.xz").read_bytes())
+        self.said("7-f2.cert.xz is packed by xz, which a browser doesn't unpack", "#said")
+        self.assertEqual(self.winners("7")["7"], self.marked())
 
     def test_a_wrong_opening(self):
         """Of a certificate that a run of hexd refuses the page says nothing."""

@@ -25,6 +25,17 @@ function wireFiles(play) {
   });
 }
 
+/** A file that is dropped on the page is opened: else the browser would go to it. */
+function wireDrop(play) {
+  addEventListener('dragover', event => { if (event.dataTransfer?.types.includes('Files')) event.preventDefault(); });
+  addEventListener('drop', event => {
+    const [file] = event.dataTransfer?.files ?? [];
+    if (!file) return;
+    event.preventDefault();
+    play.open(file);
+  });
+}
+
 /** The line of a game as the forms of links take it. */
 const lineOf = ({tree}) => ({
   size: tree.size, start: tree.start, steps: tree.line.slice(1).map(({step}) => step), end: tree.line.at(-1).end,

@@ -11,14 +11,26 @@ const PER_MILLE = 1_000;
 /** The move that is the first stone of an empty board, and Black's; null if a position isn't the one after it. */
 const firstStone = ({number, step, tree}) => (number === 1 && !tree.start.length && step.colour === 'b' ? step.move : null);
 
-/** How the winner of an opening goes on by its certificate: {cell}, his own next one if he is to move, or {replies}, his
-    answers to what the other player may do. */
-async function answersOf(text, position) {
+/** A certificate that is read in parts. */
+async function readInParts(text) {
   const reading = new CertificateReading(text);
   while (reading.read(LINES_AT_ONCE)) await new Promise(goOn => { setTimeout(goOn); });
-  const {player, claimed} = reading.whole, {cell} = claimed, {mover, facts, tree: {size}} = position;
+  return reading.whole;
+}
+
+/** How the winner of an opening goes on by its certificate: {cell}, his own next one if he is to move, or {replies}, his
+    answers to what the other player may do. */
+function answersOf({player, claimed}, {mover, facts, tree: {size}}) {
+  const {cell} = claimed;
   return {cell, replies: repliesOf({player, claimed, cell}, {mover, at: {facts}, size})};
 }
+
+/** The certificate that a position of an opening has by itself, read: one that was opened, or the solver's; else null. */
+const ownProof = ({solved}) => (solved?.proof && isAccepted(solved) ? solved.proof : null);
+
+/** The SHA-256 of the file with the certificate of an opening's position, if the page has the file's name alone; else null. */
+const absentFile = position =>
+  (ownProof(position) ? null : Session.fileSum(position.tree.size, position.step.move));
 
 /** The openings on the page: `maps` has of each size who is proved to win, by the first stone's cell. */
 class FirstStones {
@@ -28,7 +40,7 @@ class FirstStones {
   follow() {
     const {game: {tree, at, size}} = this.play;
     if (tree.isEmpty && size <= LARGEST_MAP && !this.maps.has(size)) this.askMap(size);
-    if (at.opening && firstStone(at) && at.facts && !this.asked.has(at)) this.askAnswers(at);
+    if (at.opening && firstStone(at) && at.facts && !this.asked.has(at) && !absentFile(at)) this.askAnswers(at);
   }
 
   async askMap(size) {
@@ -40,10 +52,15 @@ class FirstStones {
 
   async askAnswers(position) {
     this.asked.add(position);
-    const certificate = await Session.certificate(position.tree.size, position.step.move).catch(() => null);
-    if (!certificate) return;
-    position.answered = await answersOf(certificate, position);
+    const proof = ownProof(position) ?? await this.readOpening(position);
+    if (!proof) return;
+    position.answered = answersOf(proof, position);
     this.play.draw();
+  }
+
+  async readOpening({tree: {size}, step: {move}}) {
+    const certificate = await Session.certificate(size, move).catch(() => null);
+    return certificate && readInParts(certificate);
   }
 }
 
@@ -80,23 +97,32 @@ const mapWords = (known, all) => `Proved, of each opening with a mark (${known} 
   'so White swaps; a white one for White, so he does not. Of a cell that is pointed at its certificate is named; to check one: '}${
   checkOf('FILE')}.`;
 
-const noMapWords = size => `Of each opening of ${size} by ${size} a certificate proves who wins. They are not in this page: ${
-  'hexd\'s sources have them in openings/, and bin/hexd-board shows them.'}`;
+/** What is said of so many openings of the map of whose certificates the page has the files' names alone; nothing of none. */
+const absentWords = absent => (absent ? ` Of ${absent} the certificate is not in this page, which has not checked it: it is a file ${
+  'of hexd\'s sources. Unpacked by xz -dk FILE, \'Open file\' takes it: hexd checks it here, and its answers are shown.'}` : '');
+
+const noMapWords = size => `Of each opening of ${size} by ${size} a certificate proves who wins. They are not here: ${
+  'hexd\'s sources have them in openings/.'}`;
 
 const guessedMapWords = source => `Guessed, not proved: on each cell Black's chances in per cent if his first stone lies there, by ${
   source}. A black square is better for Black, so White swaps; a white one for White.`;
 
 /** What stands below an empty board of its openings; nothing if nothing is known. */
 function mapOf(size, map, guesses) {
-  if (map?.size) return mapWords(map.size, size ** 2);
+  const absent = [...map?.keys() ?? []].filter(vertex => Session.fileSum(size, vertex)).length;
+  if (map?.size) return mapWords(map.size, size ** 2) + absentWords(absent);
   if (map && size >= SMALLEST_MAP) return noMapWords(size);
   return guesses?.map(size) ? guessedMapWords(guesses.source) : '';
 }
 
-/** Where the certificate of an opening lies, and how to check it. */
-function fileWords(size, vertex) {
+/** Where the certificate of an opening lies, and how to check it. `sum` is its file's, if the page has the file's name alone. */
+function fileWords(size, vertex, sum) {
   const file = fileOfOpening(size, vertex), of = file.includes(`-${vertex}.`) ? '' : ', of the board turned by half a circle';
-  return `Its certificate: openings/${file}${of}. To check it: ${checkOf(`openings/${file}`)}`;
+  const check = `To check it: ${checkOf(`openings/${file}`)}`;
+  if (!sum) return `Its certificate: openings/${file}${of}. ${check}`;
+  return `Its certificate is not in this page, which has not checked it: it is the file openings/${file} of hexd's sources${of}, ${
+    `with the SHA-256 ${sum}. ${check}. Or unpack it by xz -dk ${file}, and 'Open file' takes it: hexd checks it here, ${
+      'and its answers are shown.'}`}`;
 }
 
 function openingWords(vertex, winner) {
@@ -115,7 +141,7 @@ const guessedWords = (vertex, {share}, source) => `Guessed, not proved: after Bl
 const provedElements = ({at, size}) => [
   htmlElement('p', {class: 'proved'}, openingWords(at.step.move, at.opening)),
   ...at.answered ? [htmlElement('p', {class: 'proved'}, answeredWords(at.opening, at.answered))] : [],
-  htmlElement('p', {class: 'none'}, fileWords(size, at.step.move)),
+  htmlElement('p', {class: 'none'}, fileWords(size, at.step.move, absentFile(at))),
 ];
 
 /** What is known or guessed of the first stone of a position, as elements. */

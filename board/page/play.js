@@ -228,7 +228,9 @@ class Play {
   open(blob) {
     this.stop();
     return this.act(async () => {
-      const text = recordText(await blob.arrayBuffer());
+      const bytes = await blob.arrayBuffer();
+      refusePacked(bytes, blob.name);
+      const text = recordText(bytes);
       if (isCertificate(text)) return openCertificate(this, text, blob.name);
       const {tree, notes} = treeOfRecord(text);
       await this.take(tree);

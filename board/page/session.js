@@ -68,6 +68,12 @@ class Session {
   /** The certificate of an opening of which it is proved who wins. */
   static async certificate(size, vertex) { return request('GET', `openings/${size}-${vertex}/certificate`); }
 
+  /** The SHA-256 of the file with an opening's certificate, if the page has the file's name alone: here it has none so. */
+  static fileSum() { return null; }
+
+  /** Takes an opening's certificate that `check` has accepted, and who wins by it: here the server has its own. */
+  static keepCertificate() {}
+
   /** What stands before the `#` of a link. It has not the server's token. */
   static get address() { return `${location.origin}/`; }
 

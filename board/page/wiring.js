@@ -9,6 +9,7 @@ function wire(play) {
   wireBar(play);
   wireChoices(play);
   wireFiles(play);
+  wireDrop(play);
   wireSwitches(play);
   wireHands(play);
   wireLive(play);

@@ -43,7 +43,8 @@ function thoughtElements(game, proof, map, {even, guesses, replies, progress, no
   if (!at.opening && proof && !proof.here && !game.winner) add(proofWords(proof, {mover: game.mover}, replies), 'proved');
   if (progress) add(`The solver: ${progress}.`, 'progress');
   if (at.solved && !progress) {
-    const answers = proof?.here && !game.winner ? replyWords(proof, replies) : '';
+    // Those of an opening's certificate stand above.
+    const answers = proof?.here && !game.winner && !at.answered ? replyWords(proof, replies) : '';
     if (at.solved.spent) add(unknownWords(at.solved));
     else add(solvedWords(at.solved, even) + answers, at.solved.winner ? 'proved' : '');
   }

@@ -202,18 +202,39 @@ class Records(Pages):
         """hexd plays the winner, and I move first."""
         browser = self.start("4,b2", players=("I", "I"))
         self.opened(FULL, "b2.cert")
-        self.soon("3,+b-b2", self.link)
+        self.soon("3,b2", self.link)
         browser.ready()
-        self.soon_in("Solved: Black wins, whatever White plays", "#words .proved")
+        self.soon_in("Proved: after Black's b2 Black wins; a swap takes the win.", "#words")
+        self.soon_in("Solved: without a swap Black wins, whatever White plays", "#words")
+        self.soon_in("By the certificate Black answers b1 by c1, c1 by b1", "#words")
+        self.soon(1, lambda: browser.text("#words").count("Black answers"))
         before = (browser.text("#words"), self.carrier())
         browser.reload()
         self.soon(before, lambda: (browser.text("#words"), self.carrier()))
         self.soon("Your turn (White)", self.words("#state"))
         browser.cell("b1")
-        self.soon("w-b1", lambda: self.moves()[0])
+        self.soon(["b2", "b1"], lambda: self.moves()[:2])
         self.soon_in("White has lost: Black's certificate of move ", "#words .proved")
         browser.cell(browser.vertices("[data-vertex]:not(:has(.stone))")[0])
         self.soon_in("hexd has won (Black)", "#state")
+
+    def test_a_packed_certificate_is_refused(self):
+        """Those of openings/ are packed by xz: the page says what unpacks them, and keeps its game."""
+        self.start("4,b2", players=("I", "I"))
+        self.opened((ROOT / "openings" / "5-c3.cert.xz").read_bytes(), "5-c3.cert.xz")
+        self.soon_in("hexd: 5-c3.cert.xz is packed by xz, which a browser doesn't unpack: open what `xz -dk 5-c3.cert.xz` makes", "#said")
+        self.assertEqual("4,b2", self.link())
+
+    def test_a_dropped_certificate(self):
+        browser = self.start("4,b2", players=("I", "I"))
+        drop = """
+            const dataTransfer = new DataTransfer(), given = {dataTransfer, bubbles: true, cancelable: true};
+            dataTransfer.items.add(new File([arguments[0]], 'b2.cert'));
+            return ['dragover', 'drop'].map(kind => document.getElementById('stage').dispatchEvent(new DragEvent(kind, given)));"""
+        # The browser itself does nothing with what the page takes.
+        self.assertEqual([False, False], browser.run(drop, FULL.decode()))
+        self.soon("3,b2", self.link)
+        self.soon_in("By the certificate Black answers b1 by c1, c1 by b1", "#words")
 
     def test_a_certificate_wins_for_a_weak_hexd(self):
         """By the certificate alone: this hexd sees nothing else."""
@@ -221,7 +242,7 @@ class Records(Pages):
         with Server("--playouts", "1", "--hsearch", "off", "--workers", "1") as server:
             browser = self.start("4,b2", players=("I", "I"), server=server)
             self.opened(certificate, "c3.cert")
-            self.soon("5,+b-c3", self.link)
+            self.soon("5,c3", self.link)
             browser.ready()
             while browser.text("#state") == "Your turn (White)":
                 self.assertIn("Black", browser.text("#words .proved"))
