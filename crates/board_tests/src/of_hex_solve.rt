@@ -86,23 +86,6 @@ fn small_boards(rt: HostRuntime) {
 }
 
 #[test]
-fn best_cell(rt: HostRuntime) {
-    // Size 2 after a1, of which the first empty cell is b1; it is told if no connections are looked
-    // for. With them, size 4 after d1, of which a cell is told that has no stone.
-    let rows = [(2, 1, false, true), (4, 27, true, false)];
-    for (size, stones, hsearch, is_first) in rows {
-        let board = board_of(Size::of(size).expect(&rt, "a size"), stones);
-        let answer = solve(rt.alloc(), &board, Colour::White, hsearch, 1);
-        let Ok(Solved::Unknown { best, .. }) = answer else {
-            panic!(rt; "one position is too few");
-        };
-        let best = best.expect(&rt, "a cell is told");
-        assert!(rt; board.empties().has(best));
-        assert_eq!(rt; board.empties().least() == Some(best), is_first);
-    }
-}
-
-#[test]
 fn budget_of_connections(rt: HostRuntime) {
     // Size 4 after d1, of which the search without connections needs far more positions.
     let enough = sought(&rt, rt.alloc(), u64::MAX).entered;
