@@ -21,7 +21,8 @@ function wireFiles(play) {
   for (const kind of ['svg', 'png']) on(kind, () => savePicture(play.view, kind));
   on('save-proof', () => {
     const {thought} = game.shown ?? {}, said = game.at.solved?.proof ? game.at.solved : thought;
-    saveFile(`${said.cell ?? 'position'}.cert`, new Blob([`${said.certificate}\n`]));
+    // A move of a lost board wins nothing.
+    saveFile(`${(said.win && said.cell) || 'position'}.cert`, new Blob([`${said.certificate}\n`]));
   });
 }
 

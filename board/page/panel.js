@@ -18,6 +18,7 @@ class Panel {
       this.drawn = said;
       this.choices.drawThreats(game.shown?.thought);
       this.choices.drawProof(said);
+      byId('proof-head').textContent = said?.proof ? `${COLOURS[said.proof.player]}'s certified win` : '';
     }
     this.drawStatus(state);
     this.replies = this.answers();

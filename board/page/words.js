@@ -54,6 +54,7 @@ function thoughtElements(game, proof, map, {even, guesses, replies, progress, no
     const {thought, here} = shown, name = COLOURS[thought.mover];
     add(here ? `With ${name} to move here:` : `Of ${name}'s ${thought.cell}, move ${at.number}:`, 'of');
     thoughtWords(thought).forEach(text => add(text));
+    if (here && thought.lost && replies?.size && !at.solved) add(replyWords(proof, replies).trim(), 'proved');
     if (here && at.facts.canSwap && isSwapBetter(thought, guess)) add(swapWords(thought, guess));
     if (here && even && game.tree.isFirst(at)) add(evenWords(even));
     made.push(...[bestTable(thought, here ? at.lines : null)].filter(Boolean));

@@ -268,6 +268,41 @@ class Certificates(Pages):
         self.server.request("DELETE", f"session/{session}")
         self.assertEqual(certificate.count(b"\n") - 6, len(lines))
 
+    def test_the_certificate_of_a_loss(self):
+        """It says on every side that the other player wins, holds as the game goes on, and comes back by a reload."""
+        browser = self.start("3,b2,a1,c1")
+        browser.click("#hint")
+        answers = "White loses with every move: no cell lies in each of Black's 2 threats.\nBlack answers a3 by b3, b3 by a3."
+
+        def says_so():
+            self.soon_in(answers, "#words")
+            self.assertEqual("Black's certified win", browser.text("#proof-head"))
+            self.assertRegex(browser.text("#claim"), "^Black joins row 1 and row 3 even if White moves first, ")
+            self.soon("hexd check accepts it, in a run of its own.", self.words("#checked"))
+            self.assertEqual("Black wins, proved", browser.find("#evaluation").get_attribute("title"))
+            self.assertEqual({"a3", "b3"}, self.carrier())
+            self.assertNotIn("White wins", browser.text("body"))
+
+        says_so()
+        browser.click("#save-proof")
+        certificate, session = browser.saved("position.cert"), self.server.session()
+        self.assertEqual((200, "yes full"), self.server.post(f"session/{session}/check", certificate))
+        self.server.request("DELETE", f"session/{session}")
+        follows = "Black wins: Black's certificate of move 4."
+        browser.cell("a3")
+        self.soon_in(f"{follows} It answers b3.", "#words .proved")
+        browser.click("#undo")
+        says_so()
+        browser.click("#forth")
+        self.soon_in(f"{follows} It answers b3.", "#words .proved")
+        browser.click("#back")
+        browser.cell("b1")
+        self.soon_in(follows, "#words .proved")
+        browser.click("#undo")
+        browser.run("location.reload()")
+        browser.ready()
+        says_so()
+
     def test_a_lifted_entry(self):
         """V5 of docs/use/CERTIFICATES.md: what is linked without a stone is linked with it, and answers come by it."""
         browser = self.start("2")
