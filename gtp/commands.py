@@ -90,7 +90,7 @@ class Session(Shown):
         needs(len(request.args) == 2 and request.args[0] in PARAMETERS)
         name, value = request.args
         if name == b"strength":
-            needs(value.decode() in settings.TABLE["strengths"])
+            needs(value.decode(errors="replace") in settings.TABLE["strengths"])
         else:
             low, high = PARAMETERS[name]
             needs(is_number(value, high) and int(value) >= low)

@@ -186,7 +186,8 @@ class Game(Mover):
         steps = self.steps()
         if not 1 <= move <= steps + 1:
             self.hexd.load_text(last)
-            raise Refused(b"cannot load file: it has no move %d: its moves are 1 to %d" % (move, steps))
+            moves = b"its moves are 1 to %d" % steps if steps else b"it has none"
+            raise Refused(b"cannot load file: it has no move %d: %s" % (move, moves))
         self.take_back(steps + 1 - move)
 
     def load_file(self, name):

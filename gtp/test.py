@@ -113,6 +113,7 @@ ROWS = [
     ("printsgf", "= (;FF[4]GM[11]SZ[2])\n\n"),
     ("loadsgf {folder}/other.sgf 9", "? cannot load file: it has no move 9: its moves are 1 to 3\n\n"),
     ("loadsgf {folder}/other.sgf 0", "? cannot load file: it has no move 0: its moves are 1 to 3\n\n"),
+    ("loadsgf {folder}/empty.sgf 2", "? cannot load file: it has no move 2: it has none\n\n"),
     ("loadsgf {folder}/none 0", "? cannot load file\n\n"),
     ("printsgf", "= (;FF[4]GM[11]SZ[2])\n\n"),
     ("loadsgf {folder}/other.sgf 4", "= \n\n"),
@@ -182,6 +183,8 @@ ROWS = [
     ("param_hexd workers 65", "? syntax error\n\n"),
     ("param_hexd workers 0", "? syntax error\n\n"),
     ("param_hexd strength none", "? syntax error\n\n"),
+    # One byte that is no text.
+    ("param_hexd strength \udcff", "? syntax error\n\n"),
     ("param_hexd seed 5", "= \n\n"),
     ("quit now", "? syntax error\n\n"),
     ("quit", "= \n\n"),
@@ -234,6 +237,7 @@ def rows_fault():
         Path(folder, "a  game.sgf").write_text("(;GM[11]SZ[2];B[a2])")
         Path(folder, "game 2").write_text("(;GM[11]SZ[1];B[a1])")
         Path(folder, "a text").write_text("no record")
+        Path(folder, "empty.sgf").write_text("(;GM[11]SZ[2])")
         Path(folder, "cut.sgf").write_text("(;SZ[3];B[a1];W[b2")
         Path(folder, "large.sgf").write_text("(;SZ[14];B[a1])")
         Path(folder, "wrong.sgf").write_text("(;SZ[3];B[b2];W[B2])")
@@ -241,7 +245,7 @@ def rows_fault():
         Path(folder, "other.sgf").write_text("\ufeffGame 1 (;SZ[3];B[B1];W[Swap];B[cc];W[])")
         os.mkfifo(Path(folder, "a pipe"))
         given = "".join(command + "\n" for command, _ in ROWS).format(folder=folder)
-        status, got, errors = run(WITH, SMALL, given.encode())
+        status, got, errors = run(WITH, SMALL, given.encode(errors="surrogateescape"))
     want = "".join(answer for _, answer in ROWS)
     if (status, got.decode(), errors) != (0, want, b""):
         return f"the rows: status {status}, {errors}, and for what it wrote of them:\n{got.decode()}"
