@@ -24,7 +24,7 @@ MOST_SECONDS = 2**31
 # How often who watches a client looks whether the solver still works.
 WATCH_MILLISECONDS = 500
 # With these words of util-linux before its own a process ends with the thread that started it.
-DYING = [[found, "--pdeathsig", "KILL", "--"] for found in [shutil.which("setpriv")] if found]
+DYING = [word for found in [shutil.which("setpriv")] if found for word in (found, "--pdeathsig", "KILL", "--")]
 
 
 def hold(process, memory, seconds):
@@ -42,17 +42,21 @@ def hold_session(process, workers=1):
     hold(process, SESSION_BYTES + WORKER_BYTES * workers, SESSION_SECONDS * workers)
 
 
+def dying(program, words):
+    """The command of a program that ends with the thread that starts it, if util-linux is there. OSError without the program."""
+    # setpriv would say that in its own way.
+    if not shutil.which(program):
+        fault = errno.EACCES if os.path.exists(program) else errno.ENOENT
+        raise OSError(fault, os.strerror(fault), str(program))
+    return [*DYING, str(program), *words]
+
+
 class Held(hexd.Solver):
-    """One process of hexd under limits, which answers once. It ends with the thread that starts it, if util-linux is there."""
+    """One process of hexd under limits, which answers once, and ends with the thread that starts it."""
 
     def __init__(self, program, words, memory, seconds):
-        # setpriv would say in its own way that there is no program.
-        if not shutil.which(program):
-            fault = errno.EACCES if os.path.exists(program) else errno.ENOENT
-            raise OSError(fault, os.strerror(fault), str(program))
-        command = [*(DYING[0] if DYING else []), str(program), *words]
         pipe = subprocess.PIPE
-        self.process = subprocess.Popen(command, stdin=pipe, stdout=pipe, stderr=pipe)
+        self.process = subprocess.Popen(dying(program, words), stdin=pipe, stdout=pipe, stderr=pipe)
         hold(self.process, memory, seconds)
 
 

@@ -5,6 +5,7 @@ import secrets
 import shutil
 import threading
 import time
+from concurrent.futures import ThreadPoolExecutor
 from dataclasses import dataclass, field
 from pathlib import Path
 
@@ -49,6 +50,8 @@ class Sessions:
         self.program, self.given, self.others, self.folder = program, given, others, Path(folder)
         self.open, self.reasons, self.solvers = {}, {}, 0
         self.turn = threading.Lock()
+        # Processes end with the thread that starts them, and this one lasts as long as the server.
+        self.starting = ThreadPoolExecutor(max_workers=1)
 
     def words(self, options):
         """The words for a process with these options; without any as the server was started, or as strong as by default."""
@@ -76,13 +79,16 @@ class Sessions:
             except OSError as fault:
                 raise Refusal(500, troubles.told(f"the server's folder {self.folder} can't be written", fault)) from None
             try:
-                engine = Engine([self.program, "htp", *self.words(options)], folder)
+                engine = self.starting.submit(self._engine, folder, options).result()
             except OSError as fault:
                 folder.rmdir()
                 raise self._not_started(fault) from None
             limits.hold_session(engine.process, self.given.workers)
             self.open[name] = Session(engine, folder)
             return name
+
+    def _engine(self, folder, options):
+        return Engine(limits.dying(self.program, ["htp", *self.words(options)]), folder)
 
     def _not_started(self, fault):
         return Refusal(500, troubles.told(f"the program {self.program} can't be started", fault))

@@ -45,15 +45,19 @@ class Ends(unittest.TestCase):
                 asking.join(LIMIT_SECONDS)
 
     def test_while_it_thinks(self):
-        server = Server("--playouts", "1000000", "--hsearch", "off")
-        name, got = server.session(), []
-        thinking = threading.Thread(target=lambda: got.append(attempt(server, name)))
-        thinking.start()
-        pids = until(server.engines, "there is a process")
-        self.assertEqual(0, server.end())
-        until(lambda: not any(map(is_running, pids)), "its process has ended")
-        thinking.join(LIMIT_SECONDS)
-        self.assertFalse(thinking.is_alive())
+        for number, status in ((signal.SIGINT, 0), (signal.SIGKILL, -9)):
+            with self.subTest(signal=number):
+                server = Server("--playouts", "1000000", "--hsearch", "off")
+                name, got = server.session(), []
+                thinking = threading.Thread(target=lambda: got.append(attempt(server, name)))
+                thinking.start()
+                (pid,) = until(server.engines, "there is a process")
+                # One that is stopped meets no end of its input, nor does one that thinks.
+                os.kill(pid, signal.SIGSTOP)
+                self.assertEqual(status, server.end(number))
+                until(lambda: not is_running(pid), "its process has ended")
+                thinking.join(LIMIT_SECONDS)
+                self.assertFalse(thinking.is_alive())
 
     def test_a_taken_port(self):
         with Server() as server:
@@ -132,6 +136,7 @@ class Ends(unittest.TestCase):
                 told = json.loads(server.request("GET", "settings")[1])
                 self.assertEqual((started, want["workers"]), (told["started"] is not None, told["workers"]))
                 session = server.session()
+                server.ask(session, "name")
                 (pid,) = server.engines()
                 given = Path(f"/proc/{pid}/cmdline").read_text().split("\0")
                 self.assertEqual({*settings.words_of(want), *others[:1]}, {word for word in given if word.startswith("--")})
