@@ -6,7 +6,7 @@ const OFTEN = 100;
 // From here on a clock is low.
 const LOW = 10_000;
 const CLOCK_KEPT = 'hexd-clock';
-// How hexd shares its time out, as hexd-gtp does: among this share of the empty cells, and no fewer moves than these.
+// How hexd shares its time out: among this share of the empty cells, and no fewer moves than these.
 const SHARE_OF_CELLS = 0.3, FEWEST_MOVES = 8, SPARE = 0.1;
 
 /** A time as it is shown: `9:05`, and with tenths once it is low. */
