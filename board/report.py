@@ -22,6 +22,7 @@ import objects
 import onefile
 import records
 import settings
+import troubles
 from openings import MOST_BYTES, Openings
 from sgf import printable
 
@@ -114,7 +115,7 @@ class Reporter:
             self.ask("undo")
         positions, last, mover = [], None, "w" if start["B"] > start["W"] else "b"
         for number, step in enumerate([*steps, None]):
-            print(f"{number} of {len(steps)}", file=sys.stderr)
+            troubles.say(f"{number} of {len(steps)}")
             positions.append(self.position(step["colour"] if step else mover, step, last))
             if step:
                 self.ask(f"play {step['colour']} {step['move']}")
@@ -165,7 +166,7 @@ def made(options):
 
 
 def tell(name, why):
-    print(f"hexd-report: {printable(str(name))}: {why}", file=sys.stderr)
+    troubles.say(f"hexd-report: {printable(str(name))}: {why}")
 
 
 def written(page):

@@ -22,6 +22,7 @@ import settings
 from handler import HERE, Server
 from openings import Openings
 from sessions import Sessions
+from troubles import say
 
 PORT = 8642
 # Without --port so many ports are tried, from PORT on.
@@ -75,10 +76,10 @@ def is_fit(program, words):
     try:
         fit = subprocess.run([program, "htp", *words], stdin=subprocess.DEVNULL).returncode == 0
     except OSError as fault:
-        print(f"hexd-board: hexd can't be started: {program}: {fault.strerror}", file=sys.stderr)
+        say(f"hexd-board: hexd can't be started: {program}: {fault.strerror}")
         return False
     if not fit:
-        print(f"hexd-board: hexd refuses these words: {' '.join(words)}", file=sys.stderr)
+        say(f"hexd-board: hexd refuses these words: {' '.join(words)}")
     return fit
 
 
@@ -94,14 +95,14 @@ def sweep(sessions, ended):
 def tell(server, options):
     """Prints the address, and what there is to say of it; opens it where that is wanted."""
     print(server.address(), flush=True)
-    print(f"hexd {settings.told_of_board(options.given)}. Ctrl-C ends the server.", file=sys.stderr)
+    say(f"hexd {settings.told_of_board(options.given)}. Ctrl-C ends the server.")
     if not server.is_local():
-        print(WARNING, file=sys.stderr)
+        say(WARNING)
     if options.open:
         # Beside the server, for some browsers hold up who starts them.
         threading.Thread(target=webbrowser.open, args=(server.address(),), daemon=True).start()
     else:
-        print("Open the address in a browser.", file=sys.stderr)
+        say("Open the address in a browser.")
 
 
 def serve(options, server, sessions):
@@ -132,12 +133,12 @@ def main():
         try:
             server = bound(options.listen, options.port, sessions, Openings(program))
         except (OSError, socket.gaierror) as fault:
-            print(f"hexd-board: it can't listen: {fault}", file=sys.stderr)
+            say(f"hexd-board: it can't listen: {fault}")
             return 1
         try:
             serve(options, server, sessions)
         except OSError as fault:
-            print(f"hexd-board: {fault.strerror}", file=sys.stderr)
+            say(f"hexd-board: {fault.strerror}")
             return 1
 
 

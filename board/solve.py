@@ -19,6 +19,7 @@ import limits
 import objects
 import records
 import settings
+import troubles
 from sgf import printable
 
 # The budgets: the first, and how many times as large the next one is. What is searched anew is a third of it at most.
@@ -30,7 +31,7 @@ FAILED, STOPPED = 1, 128 + signal.SIGINT
 
 
 def tell(text):
-    print(f"hexd-solve: {text}", file=sys.stderr, flush=True)
+    troubles.say(f"hexd-solve: {text}")
 
 
 def counted(number):

@@ -1,5 +1,6 @@
-"""What the system refuses the server, in words: what happened, what is lost and what to do."""
+"""What the system refuses the server, in words: what happened, what is lost and what to do. And lines on standard error."""
 
+import contextlib
 import errno
 import os
 
@@ -24,3 +25,9 @@ def told(what, fault):
     """A fault of the system in words, as `hexd's folder can't be written: No space left on device. ..`."""
     why = os.strerror(fault.errno) if fault.errno else str(fault)
     return f"{what}: {why}. {KEPT} {ADVICE.get(fault.errno, OTHERWISE)}"
+
+
+def say(text):
+    """Writes a line on standard error. If that is closed or full the line is lost, and nothing else."""
+    with contextlib.suppress(OSError):
+        os.write(2, f"{text}\n".encode(errors="backslashreplace"))

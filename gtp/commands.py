@@ -1,7 +1,6 @@
 """The commands that bin/hexd-gtp answers itself (docs/use/OTHER-PROGRAMS.md), by what hexd answers.
 There is no rule of the game here. gtp/filter.py hands hexd all else."""
 
-import os
 import resource
 
 import settings
@@ -10,6 +9,7 @@ from engine import Engine, Refused, beside, time_of
 from forms import COLOURS, is_colour, is_number, needs, needs_forms
 from shown import Shown
 from solve import DEFAULT, budgets
+from troubles import say
 
 LARGEST_SEED = 2**64 - 1
 # What param_hexd says and sets, with the least and the most of each number.
@@ -123,7 +123,7 @@ class Session(Shown):
         for budget in budgets(DEFAULT):
             words = ["solve", f"--budget={budget}", f"--hsearch={self.words.value('hsearch') or 'on'}"]
             said = beside(words, record).partition(b"\n")[0].split(b" ")
-            os.write(2, b"hexd-gtp: solve-state: %s, with up to %d positions\n" % (b" ".join(said), budget))
+            say(f"hexd-gtp: solve-state: {b' '.join(said).decode()}, with up to {budget} positions")
             if said[0] == b"won":
                 return said[1]
         return b"unknown"

@@ -22,6 +22,7 @@ from engine import NotStarted, Refused, Request, end_all
 from forms import is_number
 from log import Log
 from programs import HexdEnded
+from troubles import say
 from words import Words
 
 # hexd answers a line of more bytes `line too long`, whatever it holds.
@@ -164,7 +165,7 @@ class Filter:
         except HexdEnded:
             pass
         except ReadFault:
-            os.write(2, b"hexd-gtp: read fault\n")
+            say("hexd-gtp: read fault")
             self.session.hexd.close()
             return READ_FAULT
         except WriteFault:
@@ -192,8 +193,8 @@ if __name__ == "__main__":
     try:
         sys.exit(Filter(sys.argv[1:]).run())
     except NotStarted as fault:
-        os.write(2, f"hexd-gtp: {fault}\n".encode())
+        say(f"hexd-gtp: {fault}")
         sys.exit(fault.status)
     except OSError as fault:
-        os.write(2, f"hexd-gtp: {fault.filename or 'the log'}: {fault.strerror}\n".encode())
+        say(f"hexd-gtp: {fault.filename or 'the log'}: {fault.strerror}")
         sys.exit(WRITE_FAULT)

@@ -587,10 +587,20 @@ def stream_faults():
             yield f"{streams}: with it {with_it}, without {without}"
 
 
+def unheard_faults():
+    """Whether it goes on if standard error is closed or full, and its own lines are lost."""
+    given = b"time_settings 9 0 0\nplay b b2\nsolve-state\nundo\ngenmove b\nname\n"
+    for stream in ("2>&-", "2>/dev/full"):
+        shell = ["bash", "-c", f'exec "$@" {stream}', "bash"]
+        status, got, _ = run(shell + WITH, ["--size", "3", *NO_SWAP], given)
+        if (status, got) != (0, b"= \n\n= \n\n= black\n\n= \n\n= b2\n\n= hexd\n\n"):
+            yield f"{stream}, with lines of its own: {status}, {got}"
+
+
 def main():
     single = [rows_fault(), time_fault(), solved_fault(), seed_fault(), trace_fault(), lists_fault(), search_fault(), look_fault(), areas_fault(), killed_fault()]
     single += [json_fault(), line_fault()]
-    parts = [same_faults(), stream_faults(), ending_faults(), signal_faults(), start_faults()]
+    parts = [same_faults(), stream_faults(), unheard_faults(), ending_faults(), signal_faults(), start_faults()]
     parts += [parameter_faults(), files_faults()]
     parts += [test_moves.faults(WITH), test_analysis.faults(WITH), test_ponder.faults(WITH), test_match.faults()]
     faults = [fault for fault in single if fault] + [fault for part in parts for fault in part]

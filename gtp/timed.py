@@ -1,7 +1,6 @@
 """hexd's move in a time. If it isn't sure what a search takes, a trial takes a part of the time first, and if the flag would
 fall before the end of another search, the trial's move is played."""
 
-import os
 import re
 import time
 
@@ -9,9 +8,10 @@ from clock import SPARE, Allowed, Clock
 from engine import TooLate
 from pace import LONG_ENOUGH, Pace
 from ponder import Pondering
+from troubles import say
 
 # What the clock does to a game is told once.
-BY_A_CLOCK = b"hexd-gtp: by the clock: moves depend on the time that searches took, so this game can't be repeated\n"
+BY_A_CLOCK = "hexd-gtp: by the clock: moves depend on the time that searches took, so this game can't be repeated"
 
 
 class Timed(Pondering):
@@ -104,7 +104,7 @@ class Timed(Pondering):
         empty, seconds = self.learn_size(), self.words.seconds
         allowed = Allowed.of(seconds) if seconds else self.clock.allowed(colour, self.size**2, empty)
         if allowed and not self.is_told:
-            os.write(2, BY_A_CLOCK)
+            say(BY_A_CLOCK)
             self.is_told = True
         return allowed
 

@@ -10,8 +10,9 @@ import tempfile
 import threading
 import unittest
 from pathlib import Path
+from urllib.parse import urlsplit
 
-from tests.support import LIMIT_SECONDS, ROOT, Server, dying, is_running, until
+from tests.support import LIMIT_SECONDS, ROOT, Server, dying, first_line, is_running, unheard, until
 
 import hexd
 import sessions
@@ -121,6 +122,17 @@ class Ends(unittest.TestCase):
         with open("/dev/full", "w") as full:
             run = subprocess.run(command, stdin=subprocess.DEVNULL, stdout=full, stderr=subprocess.PIPE, timeout=LIMIT_SECONDS)
         self.assertEqual((1, b"hexd-board: No space left on device\n"), (run.returncode, run.stderr))
+
+    def test_without_standard_error(self):
+        for command in unheard(*dying(ROOT / "bin/hexd-board", "--port", "0")):
+            with subprocess.Popen(command, stdin=subprocess.DEVNULL, stdout=subprocess.PIPE, text=True) as process:
+                parts = urlsplit(first_line(process.stdout).strip())
+                connection = http.client.HTTPConnection(parts.hostname, parts.port, timeout=LIMIT_SECONDS)
+                connection.request("GET", parts.path)
+                self.assertEqual(200, connection.getresponse().status)
+                connection.close()
+                process.send_signal(signal.SIGTERM)
+                self.assertEqual(143, process.wait(LIMIT_SECONDS))
 
     def test_what_it_searches_with(self):
         workers = min(4, len(os.sched_getaffinity(0)))

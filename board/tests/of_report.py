@@ -11,7 +11,7 @@ import unittest
 from pathlib import Path
 
 from tests.certificates import FULL, SEMI
-from tests.support import LIMIT_SECONDS, ROOT, SMALL, dying
+from tests.support import LIMIT_SECONDS, ROOT, SMALL, dying, unheard
 
 import hexd
 
@@ -141,6 +141,11 @@ class Reports(unittest.TestCase):
             run = subprocess.run(command, input=b"(;SZ[1])", stdout=full, stderr=subprocess.PIPE, timeout=LIMIT_SECONDS)
         said = b"0 of 0\nhexd-report: standard output: No space left on device\n"
         self.assertEqual((1, said), (run.returncode, run.stderr))
+
+    def test_without_standard_error(self):
+        for command in unheard(ROOT / "bin/hexd-report", "--playouts", "9", "-"):
+            run = subprocess.run(command, input=b"(;SZ[1])", stdout=subprocess.PIPE, timeout=LIMIT_SECONDS)
+            self.assertEqual((0, True), (run.returncode, run.stdout.endswith(b"</html>\n")))
 
     def test_a_certificate(self):
         run = self.report(SEMI.decode(), "c4.cert")

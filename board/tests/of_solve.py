@@ -9,7 +9,7 @@ import tempfile
 import unittest
 from pathlib import Path
 
-from tests.support import LIMIT_SECONDS, ROOT, dying, first_line, is_running, until
+from tests.support import LIMIT_SECONDS, ROOT, dying, first_line, is_running, unheard, until
 
 import hexd
 import limits
@@ -99,6 +99,11 @@ class Solving(unittest.TestCase):
             run = subprocess.run([SOLVE], input=b"(;SZ[2])", stdout=gone, stderr=subprocess.PIPE, timeout=LIMIT_SECONDS)
         self.assertEqual(-signal.SIGPIPE, run.returncode)
         self.assertRegex(run.stderr.decode(), r"^hexd-solve: won black, with up to 100 positions, after \d+\.\d s\n$")
+
+    def test_without_standard_error(self):
+        for command in unheard(SOLVE):
+            run = subprocess.run(command, input=b"(;SZ[1];B[a1])", stdout=subprocess.PIPE, timeout=LIMIT_SECONDS)
+            self.assertEqual((0, b"over black\n"), (run.returncode, run.stdout))
 
     def test_what_ends_by_a_limit_says_so(self):
         solve = ["solve", "--hsearch", "off", "--budget", "1000000000"]

@@ -28,6 +28,11 @@ def dying(*command):
     return [setpriv, "--pdeathsig", "TERM", "--", *map(str, command)] if setpriv else list(map(str, command))
 
 
+def unheard(*command):
+    """Commands whose lines on standard error are lost: it is closed, or full."""
+    return [["bash", "-c", f'exec "$@" {stream}', "bash", *map(str, command)] for stream in ("2>&-", "2>/dev/full")]
+
+
 def until(what, why, limit=LIMIT_SECONDS):
     """The first true value of a function."""
     end = time.monotonic() + limit
