@@ -27,19 +27,38 @@ WATCH_MILLISECONDS = 500
 DYING = [word for found in [shutil.which("setpriv")] if found for word in (found, "--pdeathsig", "KILL", "--")]
 
 
+def lower(one, other):
+    """The lower one of two limits."""
+    return max(one, other) if resource.RLIM_INFINITY in (one, other) else min(one, other)
+
+
+def set_limit(process, kind, soft, hard):
+    """Sets a process's limits of a kind. Lower ones of the environment stand."""
+    # It may have ended already.
+    with contextlib.suppress(ProcessLookupError):
+        resource.prlimit(process.pid, kind, tuple(map(lower, (soft, hard), resource.getrlimit(kind))))
+
+
 def hold(process, memory, seconds):
-    """Sets a process's limits, which has begun and got nothing to do yet. A lower limit of the environment stands."""
+    """Sets a process's limits, which has begun and got nothing to do yet."""
+    set_limit(process, resource.RLIMIT_AS, memory, memory)
     # At the first number of seconds comes a signal that says why the process ends.
-    for kind, *values in ((resource.RLIMIT_AS, memory, memory), (resource.RLIMIT_CPU, seconds, seconds + 1)):
-        _, most = resource.getrlimit(kind)
-        # It may have ended already.
-        with contextlib.suppress(ProcessLookupError):
-            resource.prlimit(process.pid, kind, tuple(values if most == resource.RLIM_INFINITY else (min(it, most) for it in values)))
+    set_limit(process, resource.RLIMIT_CPU, seconds, seconds + 1)
+
+
+def memory_of_session(workers):
+    return SESSION_BYTES + WORKER_BYTES * workers
 
 
 def hold_session(process, workers=1):
     """Sets the limits of a session with so many workers."""
-    hold(process, SESSION_BYTES + WORKER_BYTES * workers, SESSION_SECONDS * workers)
+    hold(process, memory_of_session(workers), SESSION_SECONDS * workers)
+
+
+def of_solver(budget):
+    """The memory and the seconds of a solver that may enter so many positions."""
+    memory, seconds = SOLVE_BYTES + POSITION_BYTES * budget, SOLVE_SECONDS + POSITION_SECONDS * budget
+    return min(MOST_BYTES, memory), min(MOST_SECONDS, seconds)
 
 
 def dying(program, words):
@@ -64,9 +83,7 @@ class Solver(Held):
     """`hexd solve`, with so much as its budget of positions may take."""
 
     def __init__(self, budget, program, words=()):
-        memory = min(MOST_BYTES, SOLVE_BYTES + POSITION_BYTES * budget)
-        seconds = min(MOST_SECONDS, SOLVE_SECONDS + POSITION_SECONDS * budget)
-        super().__init__(program, ["solve", "--budget", str(budget), *words], memory, seconds)
+        super().__init__(program, ["solve", "--budget", str(budget), *words], *of_solver(budget))
 
     def end_with(self, client):
         """Sees to it that it ends when its client has gone: closed the connection, or its half of it."""

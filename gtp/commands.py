@@ -3,6 +3,7 @@ There is no rule of the game here. gtp/filter.py hands hexd all else."""
 
 import resource
 
+import limits
 import settings
 from analysis import Analysis, Wanted
 from engine import Engine, Refused, beside, time_of
@@ -122,7 +123,7 @@ class Session(Shown):
             return winner
         for budget in budgets(DEFAULT):
             words = ["solve", f"--budget={budget}", f"--hsearch={self.words.value('hsearch') or 'on'}"]
-            said = beside(words, record).partition(b"\n")[0].split(b" ")
+            said = beside(words, record, limits.of_solver(budget)).partition(b"\n")[0].split(b" ")
             say(f"hexd-gtp: solve-state: {b' '.join(said).decode()}, with up to {budget} positions")
             if said[0] == b"won":
                 return said[1]

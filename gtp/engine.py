@@ -3,11 +3,13 @@
 import contextlib
 import ctypes
 import os
+import resource
 import select
 import signal
 import subprocess
 from pathlib import Path
 
+import limits
 from programs import HEXD, Hexd, HexdEnded
 
 # The status of what ends before the program begins, as in tools/program.bash.
@@ -50,19 +52,33 @@ def end_with(parent):
         os._exit(NOT_STARTED)
 
 
+def number_in(words, name, default):
+    """The number of an option among words of hexd's."""
+    return int(next((word.partition("=")[2] for word in words if word.startswith(f"--{name}=")), default))
+
+
 class Engine(Hexd):
-    """A session of hexd, of which commands are asked. Its processes end with the filter (end_all, end_with)."""
+    """A session of hexd, of which commands are asked. Its processes end with the filter (end_all, end_with), and have limits."""
 
     running = set()
 
     def __init__(self, words):
         # By these the seed of its next move is known.
-        self.seed, self.made = int(next((word[7:] for word in words if word.startswith("--seed=")), 0)), 0
+        self.seed, self.made = number_in(words, "seed", 0), 0
+        self.workers = number_in(words, "workers", 1)
         try:
             super().__init__(words, preexec_fn=lambda parent=os.getpid(): end_with(parent))
         except OSError as fault:
             raise NotStarted(fault.strerror, NOT_STARTED) from None
         self.running.add(self.process)
+        memory = limits.memory_of_session(self.workers)
+        limits.set_limit(self.process, resource.RLIMIT_AS, memory, memory)
+
+    def send(self, piece):
+        """Hands over a part of the input, for which hexd has a session's time anew: a tournament may last for days."""
+        seconds = int(time_of(self.process)) + limits.SESSION_SECONDS * self.workers
+        limits.set_limit(self.process, resource.RLIMIT_CPU, seconds, resource.RLIM_INFINITY)
+        super().send(piece)
 
     def ask(self, command, limit=None):
         """The text of a command's success, which has so many seconds, or as many as it takes."""
@@ -121,11 +137,12 @@ class Engine(Hexd):
         return status
 
 
-def beside(words, given):
-    """What another run of hexd with these words writes on an input. It ends with the filter too."""
+def beside(words, given, held):
+    """What another run of hexd with these words, and so much memory and time, writes on an input. It ends with the filter too."""
     pipe = subprocess.PIPE
     process = subprocess.Popen([HEXD, *words], stdin=pipe, stdout=pipe, preexec_fn=lambda parent=os.getpid(): end_with(parent))
     Engine.running.add(process)
+    limits.hold(process, *held)
     try:
         return process.communicate(given)[0]
     finally:

@@ -6,7 +6,6 @@ from pathlib import Path
 
 from engine import Engine, Refused
 
-import limits
 import records
 
 # hexd reads no longer record.
@@ -35,7 +34,6 @@ def load_other(session, file):
 def why_refused(record):
     """Which move of a record hexd refuses, and why. Another hexd is asked, so that the game stays."""
     other = Engine([])
-    limits.hold_session(other.process)
 
     def ask(line):
         try:

@@ -587,6 +587,20 @@ def stream_faults():
             yield f"{streams}: with it {with_it}, without {without}"
 
 
+def limits_fault():
+    """Whether hexd has limits of memory and of the processor's time, which begins anew with each line."""
+    process, hexd = start([*SMALL, "--workers", "2"])
+    kinds = (resource.RLIMIT_AS, resource.RLIMIT_CPU)
+    before = [resource.prlimit(hexd, kind)[0] for kind in kinds]
+    resource.prlimit(hexd, resource.RLIMIT_CPU, (1000, resource.RLIM_INFINITY))
+    process.stdin.write(b"name\n")
+    process.stdin.flush()
+    process.stdout.read(len("= hexd\n\n"))
+    after = [resource.prlimit(hexd, kind)[0] for kind in kinds]
+    process.communicate(timeout=LIMIT)
+    return None if before == after == [(4 << 30) + 2 * (1 << 27), 2 * 86_400] else f"the limits of hexd: {before}, {after}"
+
+
 def unheard_faults():
     """Whether it goes on if standard error is closed or full, and its own lines are lost."""
     given = b"time_settings 9 0 0\nplay b b2\nsolve-state\nundo\ngenmove b\nname\n"
@@ -599,7 +613,7 @@ def unheard_faults():
 
 def main():
     single = [rows_fault(), time_fault(), solved_fault(), seed_fault(), trace_fault(), lists_fault(), search_fault(), look_fault(), areas_fault(), killed_fault()]
-    single += [json_fault(), line_fault()]
+    single += [json_fault(), line_fault(), limits_fault()]
     parts = [same_faults(), stream_faults(), unheard_faults(), ending_faults(), signal_faults(), start_faults()]
     parts += [parameter_faults(), files_faults()]
     parts += [test_moves.faults(WITH), test_analysis.faults(WITH), test_ponder.faults(WITH), test_match.faults()]
