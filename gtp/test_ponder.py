@@ -137,9 +137,14 @@ def line_faults(program):
             yield f"it ends with {driver.process.returncode}"
 
 
+def is_hexd(process):
+    """Whether a process of the filter's is hexd by now: before that it is the filter once more, which must not be stopped."""
+    return b"filter.py" not in Path(f"/proc/{process}/cmdline").read_bytes()
+
+
 def ponders_of(driver):
     """The hexd that ponders, once it is there."""
-    while len(children := driver.children()) < 2:
+    while len(children := driver.children()) < 2 or not is_hexd(children[-1]):
         select.select([], [], [], 0.01)
     return children[-1]
 
