@@ -24,15 +24,13 @@ use hex_plan::{Archive, NoArchive};
 use hexd_args::CommandLine;
 use search_team::OpenGate;
 use std::alloc::Global;
-use std::fs::File;
-use std::io::Read;
 use std::process::ExitCode;
 use std::thread::Threads;
 use trace_audit::TraceArchive;
 
 fn main(rt: HostRuntime) -> ExitCode {
     let _held = hold_streams(&rt);
-    grow_stack_deep(&rt);
+    grow_stack(&rt);
     let mut errors = ErrLink::new(&rt);
     let status = match status_of(&rt, &rt, &mut errors) {
         Ok(status) => status,
@@ -42,20 +40,6 @@ fn main(rt: HostRuntime) -> ExitCode {
         }
     };
     ExitCode::from(status)
-}
-
-/// Lets the stack grow by 256 KiB more than [`grow_stack`] does alone: between here and a worker's
-/// sums a session has so many frames.
-#[inline(never)]
-fn grow_stack_deep(rt: &HostRuntime) {
-    let mut room = [[0u8; 16_384]; 16];
-    // What is handed to the system has to stand on the stack.
-    if let Ok(mut nothing) = File::open(rt, "/dev/null") {
-        for part in &mut room {
-            let _count = nothing.read(part);
-        }
-    }
-    grow_stack(rt);
 }
 
 /// The status of a run over the archive that its arguments ask for, or how the program ends that
