@@ -1,5 +1,5 @@
 -- What was done over the devices of a run, told of its status.
-use Rattle.std.proofs.Common.{List, ◌≡◌, ℕ, ◌+◌, ◌≤◌, ◌⊎◌, length, sym, ◌∙◌, subst}
+use Rattle.std.proofs.Common.{List, Ok, ◌≡◌, ℕ, ◌+◌, ◌≤◌, ◌⊎◌, length, sym, ◌∙◌, subst}
 use Rattle.std.specs.Prelude.{◌↔◌}
 use Rattle.hex_io.specs.Told.{Both}
 use Rattle.hex_io.proofs.BothLaws.{Both-weaker}
@@ -21,10 +21,11 @@ use Rattle.turn_modes.specs.declared.modes.TurnMode.TheVariants as turn
 use Rattle.turn_modes.proofs.Handed.{hands_less}
 use Rattle.hex_devices.specs.Statuses.{status_of}
 use Rattle.hex_devices.specs.declared.ends.End.{End}
+use Rattle.hex_devices.specs.declared.ends.End.TheVariants.{Done}
 use Rattle.hex_devices.proofs.StatusLaws.{same_end}
 use Rattle.hex_io.specs.declared.limits.TheConstants.{INPUT_LIMIT}
 use Rattle.hex_cli.proofs.DeterminedLaws.{determined_at}
-use Rattle.hex_cli.proofs.GeneratedMoves.{headline_at, threats_at}
+use Rattle.hex_cli.proofs.GeneratedMoves.{is_done, moves_at, threats_at}
 use Rattle.hex_cli.proofs.Doings.{IsFaultless, does_complete, does_too_long}
 use Rattle.hex_cli.proofs.InputEnds.{IsComplete, IsLong}
 use Rattle.hex_cli.proofs.RunLaws.{done_outcome}
@@ -45,23 +46,32 @@ told_where : (options : Options) (end : End) (used : Supply) (old new : DevicesS
 told_where options end used old new d =
     Both-weaker old.link new.link _ _ (λ o n p. tt) d.2.outcome
 
+-- what a session that is done has conversed
+done_told : (options : Options) (end : End) (used : Supply) (old new : DevicesState)
+    → PlaysBy used options end old new → end ≡ Done
+    → Conversed (Ok tt) (engine_options options) options.size INPUT_LIMIT used
+    (shelf_and_archive old) (shelf_and_archive new) old.link new.link
+done_told options end used old new d e =
+    subst (λ outcome. Conversed outcome (engine_options options) options.size INPUT_LIMIT used
+    (shelf_and_archive old) (shelf_and_archive new) old.link new.link)
+    (done_outcome d.0 (sym e ∙ d.1)) d.2
+
 pub has_headline : (old new : DevicesState) (options : Options) (end : End)
     → HasGoodTurns options end old new → HasHeadline options end old new
 has_headline old new options end d = λ e. (
   d.0,
-  d.1,
-  headline_at (engine_options options) options.size d.0 old.link new.link
+  is_done (engine_options options) options.size d.0 old new
+      (done_told options end d.0 old new d.1 e),
+  moves_at (engine_options options) options.size d.0 old.link new.link
       (told_where options end d.0 old new d.1) d.2,
 )
 
 pub determines : (old new : DevicesState) (options : Options) (end : End)
     → HasGoodTurns options end old new → Determines options end old new
 determines old new options end d = λ e.
-    let done = done_outcome d.1.0 (sym e ∙ d.1.1) in
     determined_at (engine_options options) options.size INPUT_LIMIT d.0
     old.shelf new.shelf old.turns new.turns old.link new.link
-    (subst (λ outcome. Conversed outcome (engine_options options) options.size INPUT_LIMIT d.0
-    (shelf_and_archive old) (shelf_and_archive new) old.link new.link) done d.1.2) d.2
+    (done_told options end d.0 old new d.1 e) d.2
 
 -- ---- what stands of one turn
 

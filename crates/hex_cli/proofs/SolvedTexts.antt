@@ -8,7 +8,7 @@ use Rattle.hex_solve.specs.Solved.{BestIsEmpty, OpenIsFull, TooLongIsCounted, To
 use Rattle.hex_solve.specs.Solved.{UnknownNeedsMore, WinnerWins, WonIsCertified, WonIsShort}
 use Rattle.hex_solve.specs.declared.answers.Solved.{Solved}
 use Rattle.hex_solve.specs.declared.answers.Solved.TheVariants.{Won, Unknown, TooLong, Open}
-use Rattle.hex_cli.specs.SolveTexts.{CanBeWritten, MayBeAnswered, next_mover}
+use Rattle.hex_cli.specs.SolveTexts.{IsWritableAnswer, MayBeAnswered, next_mover}
 
 -- what the solver promises of each answer
 pub solved_by : (hsearch : Bool) (budget : ℕ) (p : Position) (mover : Colour) (solved : Solved)
@@ -37,7 +37,7 @@ solved_of_game hsearch budget game p mover solved board next s =
 
 -- what the solver answers of a position can be written
 pub can_be_written : (p : Position) (mover : Colour) (solved : Solved)
-    → WonIsCertified p mover solved → BestIsEmpty p solved → CanBeWritten p.size solved
+    → WonIsCertified p mover solved → BestIsEmpty p solved → IsWritableAnswer p.size solved
 can_be_written p mover (Won winner cert) won best = won.writable
 can_be_written p mover (Unknown spent own (Some cell)) won best = empty_on p cell best
 can_be_written p mover (Unknown spent own None) won best = tt

@@ -6,6 +6,7 @@ use Rattle.hexd_args.specs.declared.settings.Mode.TheVariants.{Htp, Check, Migra
 use Rattle.hexd_args.specs.declared.settings.Mode.TheVariants.{Sim, Bench, Solve}
 use Rattle.hex_plan.specs.Turns.{TurnData}
 use Rattle.hex_plan.specs.declared.settings.Means.{Means}
+use Rattle.hex_engine.specs.EngineState.{EngineState, opening}
 use Rattle.hex_engine.specs.Supply.{Supply}
 use Rattle.hex_engine.specs.declared.options.Options as engine
 use Rattle.htp_session.specs.Endings.{Conversed}
@@ -34,6 +35,10 @@ means_of o = record { hsearch = o.hsearch; solve = o.solve; look = o.look }
 -- the engine's options
 abbrev pub engine_options : Options → engine.Options
 engine_options o = record { knobs = o.knobs; means = means_of o }
+
+-- where a session stands before its first line
+abbrev pub session_start : Options → EngineState
+session_start o = opening (engine_options o) o.size
 
 -- one of the two means that an option asks for: a certificate, or a look-ahead
 abbrev pub asks_for_means : Options → Bool

@@ -19,7 +19,7 @@ use Rattle.hex_game.specs.declared.moves.Step.{Step}
 use Rattle.sgf_game.specs.RecordOf.{IsGameOf}
 use Rattle.hex_solve.specs.Deciding.{lines_needed, positions_needed}
 use Rattle.hex_found.specs.Found.{Certifies}
-use Rattle.hex_solve.specs.Solved.{IsBest, IsOpenBoard, IsOwnReport, few_cells}
+use Rattle.hex_solve.specs.Solved.{IsCellToTry, IsOpenBoard, IsOwnReport, few_cells}
 use Rattle.hex_solve.specs.declared.answers.Solved.{Solved}
 use Rattle.hex_solve.specs.declared.answers.Solved.TheVariants.{Won, Unknown, TooLong, Open}
 use Rattle.hex_cli.specs.declared.solutions.SolveOptions.{SolveOptions}
@@ -30,28 +30,28 @@ next_mover steps =
     option_map_or (λ step. other_of step.colour) (slice_get steps (length steps - 1)) Black
 
 -- the line of the cell that is thought best on a board of this size, if it is asked for
-abbrev pub best_line : Bool → ℕ → Option ℕ → List ℕ
-best_line true size (Some cell) = codes "best " ++ (vertex_of size cell ++ codes "\n")
-best_line true size None = []
-best_line false size cell = []
+abbrev pub best_cell_line : Bool → ℕ → Option ℕ → List ℕ
+best_cell_line true size (Some cell) = codes "best " ++ (vertex_of size cell ++ codes "\n")
+best_cell_line true size None = []
+best_cell_line false size cell = []
 
 -- the text for an answer of the solver, with the cell that is thought best or without
 abbrev pub solved_text : Bool → ℕ → Solved → List ℕ
 solved_text best size (Won winner cert) =
     codes "won " ++ (colour_word winner ++ (codes "\n" ++ cert_text cert))
 solved_text best size (Unknown spent own cell) =
-    codes "unknown " ++ (decimal spent ++ (codes "\n" ++ best_line best size cell))
+    codes "unknown " ++ (decimal spent ++ (codes "\n" ++ best_cell_line best size cell))
 solved_text best size (TooLong winner lines) =
     codes "too long " ++ (colour_word winner ++ (codes " " ++ (decimal lines ++ codes "\n")))
 solved_text best size (Open full) = codes "open\n"
 
 -- an answer of which the certificate, or the cell of a board of this size, can be written; private
 -- clauses alone cite it
-abbrev pub CanBeWritten : ℕ → Solved → Type 0
-CanBeWritten size (Won winner cert) = IsWritable cert
-CanBeWritten size (Unknown spent own best) = IfSome best (λ cell. cell < size * size)
-CanBeWritten size (TooLong winner lines) = Unit {0}
-CanBeWritten size (Open full) = Unit {0}
+abbrev pub IsWritableAnswer : ℕ → Solved → Type 0
+IsWritableAnswer size (Won winner cert) = IsWritable cert
+IsWritableAnswer size (Unknown spent own best) = IfSome best (λ cell. cell < size * size)
+IsWritableAnswer size (TooLong winner lines) = Unit {0}
+IsWritableAnswer size (Open full) = Unit {0}
 
 -- What the solver may answer, with connections or without and with this budget, of the position p
 -- with `mover` to place. Who is told to win does, whatever the other does. His certificate shows
@@ -66,7 +66,7 @@ MayBeAnswered hsearch budget p mover (Won winner cert) = Wins winner p mover
     × Certifies p mover winner cert
     × (hsearch ≡ false → length cert.lines ≤ 2 * positions_needed p mover)
 MayBeAnswered hsearch budget p mover (Unknown spent own best) = (spent ≡ budget)
-    × (budget < positions_needed p mover) × IsOwnReport p mover hsearch own × IsBest p best
+    × (budget < positions_needed p mover) × IsOwnReport p mover hsearch own × IsCellToTry p best
 MayBeAnswered hsearch budget p mover (TooLong winner lines) = Wins winner p mover
     × (MOST_LINES < lines) × (lines ≤ 2 * positions_needed p mover) × (few_cells < empty_count p)
     × (lines < 2 ^ 64 - 1 → lines ≡ lines_needed winner p mover)

@@ -60,10 +60,12 @@
 //!   devices hold before and after. `InMode` says once for which words and which end. So a mode is
 //!   one relation that can be read aloud.
 //! - The headline names a plan's two forms and not what a plan is (`IsGeneratedMove`,
-//!   `WinsOrIsBest`), so who asks about searched moves reads nothing of connections. `good_turns`
-//!   and `threats` are clauses of their own for the same reason. Each clause of mode `htp` but
-//!   `determined` says of a list of loads and turns that the session used up just this (`PlaysBy`).
-//!   An archive that tells fixes the turns; one that doesn't leaves each clause its own list.
+//!   `WinsOrIsBest`), so who asks about searched moves reads nothing of connections; and of a
+//!   session that is done only what that owes (`IsDoneSession`), so he reads nothing of other ends.
+//!   `good_turns` and `threats` are clauses of their own for the same reason. Each clause of mode
+//!   `htp` but `determined` says of a list of loads and turns that the session used up just this
+//!   (`PlaysBy`, `IsDoneSession`). An archive that tells fixes the turns; one that doesn't leaves
+//!   each clause its own list.
 //! - The mover of mode `solve` is the player who didn't make the last step, and Black before any.
 //!   The count of stones doesn't tell him: a record may set stones up, a swap changes no count, and
 //!   a player may move twice. A decided board is answered by `over`. What is said of a position is

@@ -6,8 +6,8 @@ ghost use Rattle.hex_cells.specs.Colours.{colour_word};
 ghost use Rattle.hex_cells.specs.Vertices.{vertex_of};
 ghost use Rattle.win_cert.specs.Texts.{cert_text};
 ghost use Rattle.win_cert.specs.Writable.{IsWritable};
-ghost use Rattle.hex_cli.specs.SolveTexts.{IsOverText, IsSolveText, IsSolvedText, CanBeWritten};
-ghost use Rattle.hex_cli.specs.SolveTexts.{best_line, next_mover, solved_text};
+ghost use Rattle.hex_cli.specs.SolveTexts.{IsOverText, IsSolveText, IsSolvedText, IsWritableAnswer};
+ghost use Rattle.hex_cli.specs.SolveTexts.{best_cell_line, next_mover, solved_text};
 
 use hex_cells::{Cell, Colour, Size, VERTEX_LEN, push_number, write_vertex};
 use hex_devices::InputAnswer;
@@ -88,7 +88,7 @@ fn over_text(alloc: Global, winner: Colour) -> Result<Vec<u8>, AllocError>
 
 // The text for an answer of the solver, with the cell that is thought best or without.
 fn text_of(alloc: Global, best: bool, size: Size, solved: &Solved) -> Result<Vec<u8>, AllocError>
-    requires { CanBeWritten size solved.now }
+    requires { IsWritableAnswer size solved.now }
     ensures { IfOk result (λ text. text.items ≡ solved_text best size solved.now) }
 {
     match solved {
@@ -128,7 +128,7 @@ fn unknown_text(
 ) -> Result<Vec<u8>, AllocError>
     requires { IfSome best (λ cell. cell < size * size) }
     ensures { IfOk result (λ text. text.items
-        ≡ codes "unknown " ++ (decimal spent ++ (codes "\n" ++ best_line true size best))) }
+        ≡ codes "unknown " ++ (decimal spent ++ (codes "\n" ++ best_cell_line true size best))) }
 {
     let mut text = b"unknown ".to_vec(alloc)?;
     push_number(alloc, &mut text, spent)?;

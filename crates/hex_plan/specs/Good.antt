@@ -53,17 +53,21 @@ no_means = record { hsearch = false; solve = 0; look = 0 }
 abbrev pub looks_ahead : Means → Bool
 looks_ahead means = means.hsearch && nat_lt 0 means.look
 
--- the turn is decided as planned: by the cell of a win, without a look-ahead or a tree; or by a
--- tree that was searched for it, among the allowed cells, or at the one of these that the
--- look-ahead chose by its rows
-abbrev pub FollowsPlan : Knobs → Means → TurnData → Plan → Type 0
-FollowsPlan knobs means t (Win cert cell) =
-    (t.looked ≡ None) × (t.closed ≡ None) × (t.cell ≡ cell)
-FollowsPlan knobs means t (Search threats allowed lost) =
+-- the turn was decided by a search: with what the look-ahead found, if the session looks ahead; and
+-- it has a tree, searched for it among the allowed cells, or at the one of them that was looked for
+abbrev pub IsDecidedBySearch : Knobs → Means → TurnData → ℕ → Type 0
+IsDecidedBySearch knobs means t allowed =
     (is_some t.looked ≡ looks_ahead means)
     × IsLookedAt t.board t.player allowed means.look t.looked
     × (tree : ClosedTree) × (t.closed ≡ Some tree)
     × IsSearchedFor knobs t (searched_cells allowed t.looked) tree
+
+-- the turn is decided as planned: by the cell of a win, without a look-ahead or a tree; or by a
+-- search
+abbrev pub FollowsPlan : Knobs → Means → TurnData → Plan → Type 0
+FollowsPlan knobs means t (Win cert cell) =
+    (t.looked ≡ None) × (t.closed ≡ None) × (t.cell ≡ cell)
+FollowsPlan knobs means t (Search threats allowed lost) = IsDecidedBySearch knobs means t allowed
 
 -- Good: what is promised of each turn of a session with these knobs and means
 pub record IsGood (knobs : Knobs) (means : Means) (t : TurnData) : Type 0 where

@@ -14,7 +14,7 @@ use Rattle.hex_solve.specs.Deciding.{first, lines_needed, positions_needed}
 use Rattle.hex_solve.specs.Ledgers.{LedgerData, ShowsWin, count_of}
 use Rattle.hex_solve.specs.PlainSearch.{tree_lines}
 use Rattle.hex_found.specs.Found.{IsCertifiedWinner, claim_for}
-use Rattle.hex_solve.specs.Solved.{IsBest, IsOpenBoard, few_cells}
+use Rattle.hex_solve.specs.Solved.{IsCellToTry, IsOpenBoard, few_cells}
 use Rattle.hex_solve.specs.declared.answers.Solved.{Solved}
 use Rattle.hex_solve.specs.declared.answers.Solved.TheVariants.{Won, Unknown, TooLong, Open}
 
@@ -52,7 +52,7 @@ abbrev pub IsPlainAnswer : Position → Colour → Option StoreData → ℕ → 
 IsPlainAnswer p mover own budget (Won winner cert) =
     IsCertifiedWinner p mover winner cert × (length cert.lines ≤ 2 * positions_needed p mover)
 IsPlainAnswer p mover own budget (Unknown spent left best) =
-    (spent ≡ budget) × (budget < positions_needed p mover) × (left ≡ own) × IsBest p best
+    (spent ≡ budget) × (budget < positions_needed p mover) × (left ≡ own) × IsCellToTry p best
 IsPlainAnswer p mover own budget (TooLong winner lines) = IsOverlong p mover winner lines
 IsPlainAnswer p mover own budget (Open full) = IsOpenBoard p full
 
@@ -60,6 +60,6 @@ IsPlainAnswer p mover own budget (Open full) = IsOpenBoard p full
 abbrev pub IsSolverAnswer : Position → Colour → Option StoreData → ℕ → Solved → Type 0
 IsSolverAnswer p mover own budget (Won winner cert) = IsCertifiedWinner p mover winner cert
 IsSolverAnswer p mover own budget (Unknown spent left best) =
-    (spent ≡ budget) × (budget < positions_needed p mover) × (left ≡ own) × IsBest p best
+    (spent ≡ budget) × (budget < positions_needed p mover) × (left ≡ own) × IsCellToTry p best
 IsSolverAnswer p mover own budget (TooLong winner lines) = IsOverlong p mover winner lines
 IsSolverAnswer p mover own budget (Open full) = IsOpenBoard p full

@@ -85,14 +85,14 @@ UnknownNeedsMore p mover hsearch budget (TooLong winner lines) = Unit {0}
 UnknownNeedsMore p mover hsearch budget (Open full) = Unit {0}
 
 -- the cell that is thought best is empty; there is none only if no cell is
-abbrev pub IsBest : Position → Option ℕ → Type 0
-IsBest p (Some cell) = is_empty_at p cell ≡ true
-IsBest p None = (k : ℕ) → is_empty_at p k ≡ false
+abbrev pub IsCellToTry : Position → Option ℕ → Type 0
+IsCellToTry p (Some cell) = is_empty_at p cell ≡ true
+IsCellToTry p None = (k : ℕ) → is_empty_at p k ≡ false
 
 -- the cell that is told if the winner isn't
 abbrev pub BestIsEmpty : Position → Solved → Type 0
 BestIsEmpty p (Won winner cert) = Unit {0}
-BestIsEmpty p (Unknown spent own best) = IsBest p best
+BestIsEmpty p (Unknown spent own best) = IsCellToTry p best
 BestIsEmpty p (TooLong winner lines) = Unit {0}
 BestIsEmpty p (Open full) = Unit {0}
 

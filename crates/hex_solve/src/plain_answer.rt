@@ -5,7 +5,7 @@ ghost use Rattle.hex_board.specs.Joined.{winner_of};
 ghost use Rattle.conn_store.specs.Stores.{StoreData};
 ghost use Rattle.hex_solve.specs.PlainSearch.{IsSearchEnd};
 ghost use Rattle.hex_solve.specs.PlainAnswer.{IsPlainAnswer, IsToldBy};
-ghost use Rattle.hex_solve.specs.Solved.{IsBest};
+ghost use Rattle.hex_solve.specs.Solved.{IsCellToTry};
 
 use super::answers::Solved;
 use super::ledgers::Ledger;
@@ -29,7 +29,7 @@ pub(crate) fn search_plainly(
     budget: u64,
 ) -> Result<Solved, Memory>
     requires nobody { winner_of board.now ≡ None }
-    requires best { IsBest board.now best }
+    requires best { IsCellToTry board.now best }
     ensures { IfOk result (IsPlainAnswer board.now mover own budget) }
 {
     let mut mine = Ledger::make(alloc, board, mover);
@@ -57,7 +57,7 @@ fn stopped(
     stop: SearchEnd,
 ) -> Result<Solved, Memory>
     requires end { IsSearchEnd board.now mover budget stop }
-    requires best { IsBest board.now best }
+    requires best { IsCellToTry board.now best }
     ensures { IfOk result (IsPlainAnswer board.now mover own budget) }
 {
     match stop {

@@ -5,7 +5,7 @@ ghost use Rattle.hex_board.specs.Joined.{winner_of};
 ghost use Rattle.hex_board.specs.Positions.{IsPosition, is_empty_at};
 ghost use Rattle.hsearch.specs.Closed.{IsReportOf};
 ghost use Rattle.hex_found.specs.Found.{IsCertifiedWinner};
-ghost use Rattle.hex_solve.specs.Solved.{BestIsEmpty, IsBest, IsUndecided, OpenIsFull};
+ghost use Rattle.hex_solve.specs.Solved.{BestIsEmpty, IsCellToTry, IsUndecided, OpenIsFull};
 ghost use Rattle.hex_solve.specs.Solved.{TooLongIsCounted};
 ghost use Rattle.hex_solve.specs.Solved.{TooLongNeedsMany, UnknownNeedsMore, WinnerWins};
 ghost use Rattle.hex_solve.specs.Solved.{WonIsCertified, WonIsShort};
@@ -92,7 +92,7 @@ fn search_both(
 // The cell that is thought best; the first empty one if there is none.
 fn best_of(board: &Board, thought: Option<Cell>) -> Option<Cell>
     requires { IfSome thought (λ cell. is_empty_at board.now cell ≡ true) }
-    ensures { IsBest board.now result }
+    ensures { IsCellToTry board.now result }
 {
     match thought {
         Some(cell) => Some(cell),

@@ -15,8 +15,8 @@ use Rattle.hex_plan.specs.Good.{no_means}
 use Rattle.hex_plan.specs.TurnTexts.{report_by, report_of, report_on}
 use Rattle.hex_plan.specs.Turns.{TurnData}
 use Rattle.turn_modes.specs.ModeTexts.{bench_lines, bench_text, best_line, sim_text, turn_text}
-use Rattle.turn_modes.specs.OneTurn.{IsBenchmark, IsFirstTurn, IsSimulation, bench_board}
-use Rattle.turn_modes.specs.OneTurn.{bench_player, bench_stones, first_rows}
+use Rattle.turn_modes.specs.OneTurn.{IsBenchmark, IsFirstTurn, IsSimulation, SaysReport}
+use Rattle.turn_modes.specs.OneTurn.{bench_board, bench_player, bench_stones, first_rows}
 use Rattle.turn_modes.specs.Positions.{IsBenchPosition, board_on, mover_after, shuffled_cells}
 use Rattle.turn_modes.specs.Records.{records_in}
 use Rattle.turn_modes.specs.Rows.{best_cell, visits_of}
@@ -29,6 +29,37 @@ use Rattle.turn_modes.proofs.Recorded.{all_recorded}
 
 -- ---- mode sim
 
+same_report : (a b : List ℕ) → Some a ≡ Some b → a ≡ b
+same_report a b e = cc
+
+-- with one worker the options determine what its text says
+says_report : (o : ModeOptions) (t : TurnData) (text : List ℕ)
+    → IsFirstTurn o.knobs no_means (empty_board o.size) Black t → SaysReport o.size t text
+    → o.knobs.workers ≡ 1
+    → text ≡ (let rows = first_rows o.knobs (empty_board o.size) Black in
+    sim_text o.size (best_cell rows) (report_by o.size o.knobs.playouts rows))
+unfolding report_of
+says_report o t text f (report, reported, said) w =
+    let start : Position = empty_board o.size in
+    let b = bare_turn o.knobs no_means start Black t refl f in
+    let tree = b.tree in
+    let c : ClosedTree = tree.0 in
+    let size : t.board.size ≡ o.size = ap (λ (p : Position). p.size) f.board in
+    let same : report ≡ report_on t.board.size c = same_report report (report_on t.board.size c)
+    (sym reported ∙ ap (option_map (report_on t.board.size)) tree.1) in
+    let playouts : c.shape.knobs.playouts ≡ o.knobs.playouts
+    = ap (λ (z : Setting). z.knobs.playouts)
+    (tree_setting o.knobs no_means start Black t f b) in
+    said ∙ ap (λ (r : List ℕ). sim_text o.size t.cell r) same
+    ∙ ap (λ n. sim_text o.size t.cell (report_on n c)) size
+    ∙ ap (λ cell. sim_text o.size cell (report_on o.size c))
+    (best_in c.shape c.words t.cell tree.2.best)
+    ∙ ap (λ n. sim_text o.size (best_cell (rows_of c.shape c.words))
+    (report_by o.size n (rows_of c.shape c.words))) playouts
+    ∙ ap (λ (rs : List Row). sim_text o.size (best_cell rs)
+    (report_by o.size o.knobs.playouts rs))
+    (sequential_rows_of o.knobs no_means start Black t f b w)
+
 pub simulation_says : (o : ModeOptions) (t : TurnData) (text items : List ℕ)
     → IsFirstTurn o.knobs no_means (empty_board o.size) Black t → text ≡ items
     → TellsSim t items → IsSimulation o t text
@@ -36,30 +67,21 @@ unfolding report_of
 simulation_says o t text items f same says =
     let start : Position = empty_board o.size in
     let b = bare_turn o.knobs no_means start Black t refl f in
-    let tree = b.tree in
-    let c : ClosedTree = tree.0 in
+    let c : ClosedTree = b.tree.0 in
     let size : t.board.size ≡ o.size = ap (λ (p : Position). p.size) f.board in
     let reported : report_of t ≡ Some (report_on t.board.size c)
-    = ap (option_map (report_on t.board.size)) tree.1 in
-    let said : text ≡ sim_text o.size t.cell (report_on t.board.size c)
-    = same ∙ says (report_on t.board.size c) reported
-    ∙ ap (λ n. sim_text n t.cell (report_on t.board.size c)) size in
-    let setting = tree_setting o.knobs no_means start Black t f b in
-    let playouts : c.shape.knobs.playouts ≡ o.knobs.playouts
-    = ap (λ (z : Setting). z.knobs.playouts) setting in
+    = ap (option_map (report_on t.board.size)) b.tree.1 in
+    let said : SaysReport o.size t text = (
+      report_on t.board.size c,
+      reported,
+      same ∙ says (report_on t.board.size c) reported
+          ∙ ap (λ n. sim_text n t.cell (report_on t.board.size c)) size,
+    ) in
     record {
       turn = f;
-      says = (report_on t.board.size c, reported, said);
-      one = λ w.
-          said
-          ∙ ap (λ n. sim_text o.size t.cell (report_on n c)) size
-          ∙ ap (λ cell. sim_text o.size cell (report_on o.size c))
-          (best_in c.shape c.words t.cell tree.2.best)
-          ∙ ap (λ n. sim_text o.size (best_cell (rows_of c.shape c.words))
-          (report_by o.size n (rows_of c.shape c.words))) playouts
-          ∙ ap (λ (rs : List Row). sim_text o.size (best_cell rs)
-          (report_by o.size o.knobs.playouts rs))
-          (sequential_rows_of o.knobs no_means start Black t f b w);
+      says = said;
+      determined = λ w u other g also. says_report o u other g also w
+          ∙ sym (says_report o t text f said w);
     }
 
 -- ---- mode bench
@@ -127,4 +149,9 @@ benchmark_says o t stones text items f m n same says =
     let said : text ≡ turn_text o.size (bench_stones o) o.knobs t.cell t.closed
     = same ∙ says ∙ ap (λ k. turn_text k stones o.knobs t.cell t.closed) size
     ∙ ap (λ k. turn_text o.size k o.knobs t.cell t.closed) m in
-    record { turn = f; says = said; determined = says_rows o t text f said }
+    record {
+      turn = f;
+      says = said;
+      determined = λ off u other g also. says_rows o u other g also off
+          ∙ sym (says_rows o t text f said off);
+    }

@@ -15,15 +15,14 @@ use Rattle.hex_plan.specs.Good.{IsSequential, IsTurnShape, no_means}
 use Rattle.hex_plan.specs.Plans.{IsPlanned}
 use Rattle.hex_plan.specs.Reports.{rows_in}
 use Rattle.hex_plan.specs.Seeds.{turn_knobs}
-use Rattle.hex_plan.specs.TurnTexts.{report_by, report_of}
+use Rattle.hex_plan.specs.TurnTexts.{report_of}
 use Rattle.hex_plan.specs.Turns.{TurnData}
 use Rattle.hex_plan.specs.declared.plans.Planned.{Planned}
 use Rattle.hex_plan.specs.declared.settings.Means.{Means}
 use Rattle.turn_search.specs.Owed.{IsOwed}
 use Rattle.sim_run.specs.BetweenSteps.{EndsSchedule}
-use Rattle.turn_modes.specs.ModeTexts.{sim_text, bench_text, turn_text}
+use Rattle.turn_modes.specs.ModeTexts.{sim_text, turn_text}
 use Rattle.turn_modes.specs.Positions.{board_on, mover_after, shuffled_cells, placed_count}
-use Rattle.turn_modes.specs.Rows.{best_cell}
 use Rattle.turn_modes.specs.Schedules.{schedule_of}
 use Rattle.turn_modes.specs.declared.options.ModeOptions.{ModeOptions}
 
@@ -41,7 +40,8 @@ MakesFirstTurn planned tree t = (knobs : Knobs) (now : Position) (mover : Colour
     → IsTurnShape knobs now mover 0 tree.shape.allowed tree.shape → IsSequential knobs tree
     → IsFirstTurn knobs no_means now mover t
 
--- what is searched for a first turn without connections: all empty cells are allowed
+-- what is searched for a first turn without connections: all empty cells are allowed; proofs alone
+-- cite it
 abbrev pub first_setting : Knobs → Position → Colour → Setting
 first_setting knobs now mover = record {
   board = now;
@@ -50,9 +50,18 @@ first_setting knobs now mover = record {
   knobs = turn_knobs knobs 0;
 }
 
--- the rows of its sequential search
+-- the rows of its sequential search; proofs alone cite it
 abbrev pub first_rows : Knobs → Position → Colour → List Row
 first_rows knobs now mover = rows_in (seq_of (first_setting knobs now mover)).0
+
+-- the turn is one of the mode, and the text is one of the turn; if there is one text alone, each
+-- other turn of the mode has it
+pub record IsModeTurn (IsTurn : TurnData → Type 0) (Says : TurnData → List ℕ → Type 0)
+    (IsOne : Type 0) (t : TurnData) (text : List ℕ) : Type 0 where
+  pub turn : IsTurn t
+  pub says : Says t text
+  pub determined : IsOne → (u : TurnData) (other : List ℕ) → IsTurn u → Says u other
+      → other ≡ text
 
 -- ---- mode sim
 
@@ -61,15 +70,16 @@ abbrev pub FollowsSchedule : ModeOptions → TurnData → Type 0
 FollowsSchedule o t = o.knobs.workers ≢ 1 → (tree : ClosedTree) × (t.closed ≡ Some tree)
     × EndsSchedule tree.shape (schedule_of o.knobs.workers o.knobs.seed o.steps) tree.words
 
--- the turn is that of the board without stones, with Black to move, and without means; the text is
--- that of the turn, and with one worker the options determine it
-pub record IsSimulation (o : ModeOptions) (t : TurnData) (text : List ℕ) : Type 0 where
-  pub turn : IsFirstTurn o.knobs no_means (empty_board o.size) Black t
-  pub says : (report : List ℕ) × (report_of t ≡ Some report)
-      × (text ≡ sim_text o.size t.cell report)
-  pub one : o.knobs.workers ≡ 1
-      → text ≡ (let rows = first_rows o.knobs (empty_board o.size) Black in
-      sim_text o.size (best_cell rows) (report_by o.size o.knobs.playouts rows))
+-- the text is that of the turn: its cell, and the report of its tree
+abbrev pub SaysReport : ℕ → TurnData → List ℕ → Type 0
+SaysReport size t text =
+    (report : List ℕ) × (report_of t ≡ Some report) × (text ≡ sim_text size t.cell report)
+
+-- the turn is that of the board without stones, with Black to move, and without means; with one
+-- worker the options determine its text
+abbrev pub IsSimulation : ModeOptions → TurnData → List ℕ → Type 0
+IsSimulation o = IsModeTurn (IsFirstTurn o.knobs no_means (empty_board o.size) Black)
+    (SaysReport o.size) (o.knobs.workers ≡ 1)
 
 -- ---- mode bench
 
@@ -83,11 +93,9 @@ bench_board o = board_on o.size (shuffled_cells o.size o.knobs.seed) (bench_ston
 abbrev pub bench_player : ModeOptions → Colour
 bench_player o = mover_after (bench_stones o)
 
--- the turn is that of the position, with the means of bench, and the text is that of the turn; if
--- no connections are looked for the options determine it
-pub record IsBenchmark (o : ModeOptions) (t : TurnData) (text : List ℕ) : Type 0 where
-  pub turn : IsFirstTurn o.knobs o.means (bench_board o) (bench_player o) t
-  pub says : text ≡ turn_text o.size (bench_stones o) o.knobs t.cell t.closed
-  pub determined : o.means.hsearch ≡ false
-      → text ≡ (let rows = first_rows o.knobs (bench_board o) (bench_player o) in
-      bench_text o.size (bench_stones o) o.knobs o.knobs.playouts rows (best_cell rows))
+-- the turn is that of the position, with the means of bench; if no connections are looked for the
+-- options determine its text
+abbrev pub IsBenchmark : ModeOptions → TurnData → List ℕ → Type 0
+IsBenchmark o = IsModeTurn (IsFirstTurn o.knobs o.means (bench_board o) (bench_player o))
+    (λ t text. text ≡ turn_text o.size (bench_stones o) o.knobs t.cell t.closed)
+    (o.means.hsearch ≡ false)

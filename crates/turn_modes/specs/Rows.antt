@@ -1,4 +1,4 @@
--- The best row of a report, and the visits of a cell.
+-- The visits of a cell in a report; and its best row, which proofs alone cite.
 use Rattle.std.specs.Prelude.{ℕ, Bool, List, [], ◌∷◌, ◌&&◌, ◌||◌, ◌==◌, nat_lt, if◌then◌else◌}
 use Rattle.tree_words.specs.declared.roots.Row.{Row}
 

@@ -35,8 +35,9 @@
 //!   after no stone of which somebody is joined. If nobody was joined before, a new stone joins
 //!   nobody but its player, so that is where placing stops before a stone that would join its
 //!   player.
-//! - A text can be a function of the options only if its cell is one, so the best cell is a
-//!   function of rows (`best_cell`); that it is the cell of `IsBest` is proved.
+//! - That the options determine a text is said by itself (`IsModeTurn`): each other turn of the
+//!   mode has the same. The proof has the text as a function of the sequential search's rows, and
+//!   so the best cell as one (`best_cell`), which is proved to be the cell of `IsBest`.
 //! - The tree of `sim` is that of its schedule by a clause of [`hand_in`] and by none of `run`,
 //!   which would ask the reader for the worker as a machine of single steps, some 130 definitions.
 //! - One worker makes the same tree by every schedule, so none is followed: the sequential search

@@ -3,7 +3,7 @@ use Rattle.std.proofs.Common.{sym, ap, subst, ◌∙◌, inl, inr, ℕ}
 use Rattle.std.proofs.lemmas.Result.{IfOk-weaker}
 use Rattle.hex_board.specs.Joined.{winner_of}
 use Rattle.hex_board.specs.Positions.{Position}
-use Rattle.hex_cli.specs.SolveTexts.{CanBeWritten, next_mover, solved_text}
+use Rattle.hex_cli.specs.SolveTexts.{IsWritableAnswer, next_mover, solved_text}
 use Rattle.hex_cli.proofs.SolvedTexts.{can_be_written, solved_by, solved_of_game}
 use Rattle.hex_cli.proofs.solutions.game_text.Goals as goal
 
@@ -19,7 +19,7 @@ returns-in-Some c =
 
 pub text_of-requires : goal.text_of-requires
 text_of-requires c =
-    subst (λ (n : ℕ). CanBeWritten n c.in-Ok.solved) (sym c.size.ensures.value)
+    subst (λ (n : ℕ). IsWritableAnswer n c.in-Ok.solved) (sym c.size.ensures.value)
     (can_be_written c.board-board.result.now c.next_to_place-mover.result c.in-Ok.solved
     c.in-Ok.ensures.won c.in-Ok.ensures.best)
 
