@@ -9,7 +9,7 @@ complete -c hexd-gtp -l expand -x -d 'How many visits a node of the tree needs t
 complete -c hexd-gtp -l weight -x -d 'How much exploration weighs in a score, in 256th parts: 0 to 1,024'
 complete -c hexd-gtp -l hsearch -x -a 'on off' -d 'Whether a genmove looks for connections first, and whether solve does: on or off'
 complete -c hexd-gtp -l solve -x -d 'How many positions a genmove, or bench, may enter to look for a certificate: 0 to 10,000,000'
-complete -c hexd-gtp -l look -x -d 'How many nodes the look-ahead of a genmove, or of bench, judges: 0 to 1,000,000'
+complete -c hexd-gtp -l look -x -d 'How many nodes the look-ahead of a genmove, or of bench, has: 0 to 1,000,000'
 complete -c hexd-gtp -l steps -x -d 'In sim how many steps of the schedule are drawn: 0 to 1,000,000'
 complete -c hexd-gtp -l budget -x -d 'In solve how many positions each search of the solver may enter: 1 to 18,446,744,073,709,551,615'
 complete -c hexd-gtp -l best -x -a 'on off' -d 'Whether solve names a best cell after unknown: on or off'

@@ -52,6 +52,7 @@ impl Engine {
             Loaded::Unread => Ok(Answer::Fail(Fail::ReadFault)),
             Loaded::Refused => Ok(Answer::Fail(Fail::NoLoad)),
             Loaded::Loads(game) => {
+                self.kept.forget();
                 self.game = game;
                 Ok(empty_answer(self.alloc))
             }

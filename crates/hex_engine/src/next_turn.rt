@@ -28,21 +28,22 @@ pub struct Prepared {
 }
 
 impl Engine {
-    /// The next turn, with what is told of it.
+    /// The next turn, with what is told of it. Nothing changes but what its look-ahead keeps.
     pub(super) fn prepare<R: Threads + Sync, G: Gate + Sync>(
-        &self,
+        &mut self,
         rt: &R,
         colour: Colour,
         gate: &G,
     ) -> Result<Prepared, Memory>
-        requires { may_move (board_of self.now.game) ≡ true }
+        requires { may_move (board_of self.old.game) ≡ true }
         ensures good { IfOk result
-            (λ next. IsGood self.now.options.knobs self.now.options.means next.turn) }
-        ensures next { IfOk result (λ next. is_next self.now colour next.turn ≡ true) }
+            (λ next. IsGood self.old.options.knobs self.old.options.means next.turn) }
+        ensures next { IfOk result (λ next. is_next self.old colour next.turn ≡ true) }
         ensures texts { IfOk result (λ next. next.texts ≡ texts_of next.turn) }
         ensures vertex { IfOk result (λ next.
-            next.vertex ≡ vertex_of (board_of self.now.game).size next.turn.cell) }
+            next.vertex ≡ vertex_of (board_of self.old.game).size next.turn.cell) }
         ensures length { IfOk result (λ next. length next.vertex ≤ 3) }
+        ensures same { self.new ≡ self.old }
     {
         let turn = self.decide(rt, colour, gate)?;
         let texts = turn_texts(self.alloc, &turn)?;
@@ -56,21 +57,23 @@ impl Engine {
 
     /// The turn that is owed on the board with this colour to move.
     fn decide<R: Threads + Sync, G: Gate + Sync>(
-        &self,
+        &mut self,
         rt: &R,
         colour: Colour,
         gate: &G,
     ) -> Result<Turn, Memory>
-        requires { may_move (board_of self.now.game) ≡ true }
+        requires { may_move (board_of self.old.game) ≡ true }
         ensures good { IfOk result
-            (IsGood self.now.options.knobs self.now.options.means) }
-        ensures next { IfOk result (λ turn. is_next self.now colour turn ≡ true) }
+            (IsGood self.old.options.knobs self.old.options.means) }
+        ensures next { IfOk result (λ turn. is_next self.old colour turn ≡ true) }
+        ensures same { self.new ≡ self.old }
     {
         let board = self.game.board();
         let knobs = &self.options.knobs;
         let means = self.options.means;
+        let kept = &mut self.kept;
         match decided_turn(
-            rt, self.alloc, board, colour, self.turns, knobs, means, gate,
+            rt, self.alloc, board, colour, self.turns, knobs, means, gate, kept,
         ) {
             Ok(turn) => Ok(turn),
             Err(_) => Err(Memory),

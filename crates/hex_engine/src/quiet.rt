@@ -58,8 +58,14 @@ impl Engine {
     {
         let alloc = self.alloc;
         match command {
-            Quiet::BoardSize => Ok(resize(alloc, &mut self.game, args)),
-            Quiet::ClearBoard => Ok(clear(alloc, &mut self.game)),
+            Quiet::BoardSize => {
+                self.kept.forget();
+                Ok(resize(alloc, &mut self.game, args))
+            }
+            Quiet::ClearBoard => {
+                self.kept.forget();
+                Ok(clear(alloc, &mut self.game))
+            }
             Quiet::KnownCommand => know(alloc, args),
             Quiet::ListCommands => list(alloc),
             Quiet::LookReport => tell_look(alloc, &self.last),
@@ -71,7 +77,10 @@ impl Engine {
             Quiet::Quit => Ok(Answer::Quit),
             Quiet::SearchReport => tell_report(alloc, &self.last),
             Quiet::ShowBoard => show(alloc, self.game.board()),
-            Quiet::Undo => Ok(undo(alloc, &mut self.game)),
+            Quiet::Undo => {
+                self.kept.forget();
+                Ok(undo(alloc, &mut self.game))
+            }
             Quiet::Version => tell(alloc, b"1.0"),
             Quiet::WinCert => tell_certificate(alloc, &self.last),
             Quiet::Winner => tell(alloc, name_of_winner(self.game.board())),

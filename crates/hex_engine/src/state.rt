@@ -24,6 +24,7 @@ use search_team::Gate;
 use std::alloc::Global;
 use std::marker::Model;
 use std::thread::Threads;
+use turn_search::KeptLook;
 
 /// Answers requests one by one, each from the game that the requests before it led to.
 #[derive(Drop)]
@@ -33,6 +34,8 @@ pub struct Engine {
     pub(super) game: Game,
     pub(super) turns: u64,
     pub(super) last: Option<TurnTexts>,
+    /// What the last turn's look-ahead found, if only moves were made since.
+    pub(super) kept: KeptLook,
 }
 
 impl Model for Engine {
@@ -65,6 +68,7 @@ impl Engine {
                 game,
                 turns: 0,
                 last: None,
+                kept: KeptLook::none(),
             }),
             Err(_) => Err(Memory),
         }

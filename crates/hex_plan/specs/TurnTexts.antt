@@ -97,7 +97,7 @@ look_line size row = if nat_lt row.cell (size * size)
     ++ outcome_text row.known ++ line_text size row.line.items
     else []
 
--- what the look-ahead of a turn found, if there was one: how many nodes it judged, and a line for
+-- what the look-ahead of a turn found, if there was one: how many nodes it has, and a line for
 -- each cell
 abbrev pub look_of : ℕ → LookedData → List ℕ
 look_of size looked =

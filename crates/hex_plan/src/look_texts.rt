@@ -10,7 +10,7 @@ use hex_cells::{Cell, Size, push_number};
 use look_ahead::{LookRow, Looked, Outcome};
 use std::alloc::{AllocError, Global};
 
-/// How many nodes were judged, and a line for each cell.
+/// How many nodes it has, and a line for each cell.
 pub(crate) fn look_text(alloc: Global, looked: &Looked, size: Size) -> Result<Vec<u8>, AllocError>
     ensures { IfOk result (λ text. text.items ≡ look_of size looked.now) }
 {

@@ -11,7 +11,7 @@ pub struct Means {
     /// How many positions the solver's search may enter to find a certificate of who wins; with 0
     /// none is looked for.
     pub solve: u32,
-    /// How many nodes the look-ahead may judge to choose the one cell that is searched; with 0 all
+    /// How many nodes the look-ahead may have to choose the one cell that is searched; with 0 all
     /// allowed cells are searched.
     pub look: u32,
 }

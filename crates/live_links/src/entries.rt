@@ -107,7 +107,7 @@ impl Held {
             count: 0,
             widest: 0,
             lost: 0,
-            at: [NOBODY; PLACES],
+            at: [0; PLACES],
         }
     }
 

@@ -12,7 +12,7 @@ use Rattle.look_ahead.specs.declared.rows.LookRow.{LookRow}
 use Rattle.look_ahead.specs.declared.rows.Outcome.{Outcome}
 use Rattle.look_ahead.specs.declared.rows.Outcome.TheVariants.{Won, Lost}
 
--- the cell that it chose, how many nodes it judged, and its rows
+-- the cell that it chose, how many nodes it has, and its rows
 pub record LookedData : Type 0 where
   pub cell : ℕ
   pub nodes : ℕ
@@ -77,7 +77,7 @@ pub record IsLookOf (board : Position) (player : Colour) (allowed budget : ℕ)
     (looked : LookedData) : Type 0 where
   -- its rows are of the allowed cells, each once, in rising order
   pub cells : cells_of_rows looked.rows ≡ set_cells allowed
-  -- the root was judged, and no more nodes than the budget has
+  -- it has the root, and no more nodes than the budget
   pub root : 1 ≤ looked.nodes
   pub few : looked.nodes ≤ budget
   -- it chose an allowed cell: that of a row of the highest rank

@@ -24,7 +24,7 @@ impl Look {
         ensures keeps { length self.old.nodes.items ≤ length self.new.nodes.items }
     {
         let count = self.go_down(colour, most);
-        judge_all(rt, &mut self.judges, count, &self.pool);
+        judge_all(rt, self.workers, &mut self.judges, count, &self.pool);
         'results: for number in 0..count.min(most) {
             self.take(alloc, number)?;
         }
@@ -113,8 +113,8 @@ impl Look {
         if job.slot.is_none() {
             self.pool.keep(alloc, judge.before(), job.above)?;
         }
-        let node = self.node_of(alloc, number, &finding, job.above)?;
         let place = number_of(self.nodes.len());
+        let node = self.node_of(alloc, number, &finding, job.above, place)?;
         self.nodes.push(node)?;
         if let Some(kid) = self.kids.get_mut(job.number as usize) {
             kid.node = place;
@@ -123,21 +123,21 @@ impl Look {
         Ok(())
     }
 
-    /// The node that the judge with this number found, below another one. It gets the place behind
-    /// the last node.
+    /// The node that the judge with this number found, below another one. It gets this place.
     pub(super) fn node_of(
         &mut self,
         alloc: Global,
         number: usize,
         finding: &Finding,
         above: u32,
+        place: u32,
     ) -> Result<LookNode, Memory>
         ensures { self.new.nodes ≡ self.old.nodes }
     {
         match finding.verdict {
             Verdict::Won => Ok(LookNode::decided(&finding.board, State::Won, above)),
             Verdict::Lost => Ok(LookNode::decided(&finding.board, State::Lost, above)),
-            Verdict::Among(_) => self.open_node(alloc, number, finding, above),
+            Verdict::Among(_) => self.open_node(alloc, number, finding, above, place),
         }
     }
 
@@ -148,10 +148,10 @@ impl Look {
         number: usize,
         finding: &Finding,
         above: u32,
+        place: u32,
     ) -> Result<LookNode, Memory>
         ensures { self.new.nodes ≡ self.old.nodes }
     {
-        let place = number_of(self.nodes.len());
         let first = number_of(self.kids.len());
         let mut slot = usize::MAX;
         if let Some(judge) = self.judges.get_mut(number) {
@@ -163,15 +163,26 @@ impl Look {
     }
 }
 
-// Lets so many judges do their jobs, each in a thread of its own. Each writes what it has alone,
-// and reads what is kept: so it finds the same however the threads run.
-fn judge_all<R: Threads + Sync>(rt: &R, judges: &mut [Judge], count: usize, pool: &Pool) {
+// Lets so many judges do their jobs, in as many threads as there are workers. Each writes what it
+// has alone, and reads what is kept: so it finds the same however the threads run.
+fn judge_all<R: Threads + Sync>(
+    rt: &R,
+    workers: u32,
+    judges: &mut [Judge],
+    count: usize,
+    pool: &Pool,
+) {
     let count = count.min(judges.len());
     let (busy, _idle) = judges.split_at_mut(count);
-    for_each_mut(rt, busy, count.max(1), &|_number, judge| judge.work(pool));
+    for_each_mut(
+        rt,
+        busy,
+        workers.max(1) as usize,
+        &|_number, judge| { judge.work(pool) },
+    );
 }
 
-// A length as a place.
-fn number_of(length: usize) -> u32 {
+/// A length as a place.
+pub(super) fn number_of(length: usize) -> u32 {
     length.min(NOWHERE as usize) as u32
 }

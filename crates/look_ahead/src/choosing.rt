@@ -3,6 +3,7 @@
 use super::nodes::{AWAITED, Kid, State};
 use super::searches::Look;
 use super::values::{fresh_value, root_of, score_of};
+use hex_cells::Cell;
 
 impl Look {
     /// What is known at a place.
@@ -11,6 +12,25 @@ impl Look {
             Some(node) => node.state,
             None => State::Lost,
         }
+    }
+
+    /// The number of a node's kid on the cell.
+    pub(super) fn number_at(&self, place: u32, cell: Cell) -> Option<u32> {
+        let node = self.nodes.get(place as usize)?;
+        for number in node.first..node.first.saturating_add(node.count) {
+            if let Some(kid) = self.kids.get(number as usize)
+                && kid.cell == cell
+            {
+                return Some(number);
+            }
+        }
+        None
+    }
+
+    /// A node's kid on the cell.
+    pub(super) fn kid_at(&self, place: u32, cell: Cell) -> Option<&Kid> {
+        let number = self.number_at(place, cell)?;
+        self.kids.get(number as usize)
     }
 
     /// The kid of a node with the best score, among those that the other player isn't known to win

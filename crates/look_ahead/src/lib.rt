@@ -18,15 +18,19 @@
 //! (`live_links`). Else it compares the totals of both circuits. Back up the path each node gets
 //! the value, from its own side.
 //!
-//! **Batches.** With W workers at most W walks go down one after the other. Their boards are judged
-//! side by side, each by a *judge* in a thread of its own, and then they go up in the order in
-//! which they went down. Until then each counts as lost for who moves by it, so that the next ones
+//! **Batches.** With W workers up to 2·W walks, and at most 64, go down one after the other. Their
+//! boards are judged in W threads, each by a *judge*, and then they go up in the order in which
+//! they went down. Until then each counts as lost for who moves by it, so that the next ones
 //! go elsewhere, and none goes to a kid that is being judged. A batch of one is a walk by itself.
+//!
+//! **From search to search.** If a root follows the last one by one or two moves, made in turn, the
+//! nodes below that board are kept, as they are, and the root itself is judged anew, on the cells
+//! that it is given. They count towards the budget.
 //!
 //! **What is proved.** What the rows say (specs/Looked.antt): they are of the given cells, each
 //! once, in rising order, and who is known to win after a stone does; the moves of a row's line
 //! can be made in turn after its cell; the cell that is chosen is that of a row of the highest
-//! rank; the root is judged, and no more nodes than the budget has. Each call is safe and ends, and
+//! rank; it has the root, and no more nodes than the budget. Each call is safe and ends, and
 //! refuses only if memory runs out.
 //!
 //! **What is only tested, or not said.** How strong the choice is: of a row's walks and value
@@ -38,8 +42,9 @@
 //! **Limits.** As many nodes as the budget. Each takes its own size and up to 121 kids of 12 bytes:
 //! before the first walk, for the first 10,000 of them. The links of the 320 nodes that were used
 //! last are kept, in at most 256 MB (130 MB on a board of 11 by 11), and made anew where they are
-//! gone. Each worker takes up to 2 MB for the links that it makes. In the end each cell that is
-//! taken for won or lost has one report of H-search, one cell after the other.
+//! gone. Each board of a batch takes up to 2 MB for the links that are made. In the end each cell
+//! that is taken for won or lost has one report of H-search, one cell after the other. All of that
+//! stays for the next search.
 //!
 //! **Why so.**
 //!
@@ -47,8 +52,8 @@
 //! - Sums stop at the greatest number, which none comes near: so no proof rests on their size.
 //! - Every loop is a `for`, which needs no proof that it ends. A walk that meets no new node
 //!   decides one, or goes on; there are at most four batches for each node of the budget.
-//! - A batch has a thread for each walk, and no queue: a board takes much longer than a thread
-//!   takes to start. Where none can be started, boards are judged in turn.
+//! - A batch has threads of its own, and no queue: a board takes much longer than a thread takes to
+//!   start. Where none can be started, boards are judged in turn.
 //! - The constants are by trial, in matches on boards of 11 by 11.
 #![tactic(auto)]
 
@@ -56,6 +61,7 @@ mod batches;
 mod choosing;
 mod filling;
 mod judges;
+mod keeping;
 mod lines;
 mod nodes;
 mod pool;

@@ -44,7 +44,7 @@ impl Look {
 
     // The place of the node after the cell at the root.
     fn root_node(&self, cell: Cell) -> u32 {
-        match self.root_kid(cell) {
+        match self.kid_at(0, cell) {
             Some(kid) => kid.node,
             None => NOWHERE,
         }

@@ -116,6 +116,16 @@ impl LookNode {
         self.sum = self.sum.saturating_add(value);
         value
     }
+
+    /// It takes all walks that went to a kid's node.
+    pub(crate) fn take_all(&mut self, below: &LookNode) {
+        if below.state == State::Lost {
+            self.state = State::Won;
+        }
+        let value = turned(below.known_mean());
+        self.visits = self.visits.saturating_add(below.visits);
+        self.sum = self.sum.saturating_add(value.saturating_mul(below.visits));
+    }
 }
 
 // The value in a state, if an open node has this one.

@@ -141,6 +141,16 @@ impl Pool {
         }
     }
 
+    /// Says of which node from now on each is what is kept.
+    pub(crate) fn rename(&mut self, places: &[u32]) {
+        for both in self.kept.iter_mut() {
+            both.node = places.get(both.node as usize).copied().unwrap_or(NOWHERE);
+            if both.node == NOWHERE {
+                both.used = 0;
+            }
+        }
+    }
+
     /// The links in a slot.
     pub(crate) fn at(&self, slot: usize) -> Option<&Both> {
         self.kept.get(slot)

@@ -74,7 +74,7 @@ fn class_of_value(value: u32) -> u64
     }
 }
 
-/// What a look-ahead found: the cell that it chose, how many nodes it judged, and its rows.
+/// What a look-ahead found: the cell that it chose, how many nodes it has, and its rows.
 #[derive(Debug, Drop)]
 pub struct Looked {
     cell: Cell,
@@ -105,7 +105,7 @@ impl Looked {
         self.cell
     }
 
-    /// How many nodes were judged.
+    /// How many nodes it has.
     pub fn nodes(&self) -> u32
         ensures { result ≡ self.now.nodes }
     {

@@ -5,6 +5,7 @@ ghost use Rattle.hex_cells.specs.Sets.{has};
 ghost use Rattle.look_ahead.specs.Looked.{IsLookOf};
 
 use super::judges::Judge;
+use super::keeping::Last;
 use super::nodes::{Kid, LookNode, NOWHERE, State};
 use super::pool::Pool;
 use super::refusals::Memory;
@@ -22,6 +23,13 @@ const BATCHES_PER_NODE: u64 = 4;
 // 16 MB.
 const NODES_WITH_ROOM: u32 = 10_000;
 
+// Of several workers each judges so many boards of a batch: two take more nearly as long as two
+// others than one as long as another.
+const BOARDS_EACH: u32 = 2;
+
+// The most boards of a batch.
+const MOST_BOARDS: u32 = 64;
+
 /// A board with the player to move.
 #[derive(Clone, Copy)]
 pub struct Root<'a> {
@@ -36,8 +44,16 @@ pub struct Look {
     pub(super) kids: Vec<Kid>,
     // The links of nodes.
     pub(super) pool: Pool,
-    // One for each worker.
+    // How many threads judge.
+    pub(super) workers: u32,
+    // One for each board of a batch.
     pub(super) judges: Vec<Judge>,
+    // What a later search begins with: the last root, if nothing came between.
+    pub(super) last: Option<Last>,
+    // Room for what is kept: where each node is from now on, and the kids of the root that have
+    // nodes.
+    pub(super) places: Vec<u32>,
+    pub(super) tops: Vec<Kid>,
 }
 
 /// A kid without a node, the node above it, and who moves there.
@@ -64,21 +80,28 @@ impl Look {
     /// A search without nodes, by so many workers.
     pub fn make(alloc: Global, workers: u32) -> Result<Look, Memory> {
         let mut judges = Vec::new(alloc);
-        for _worker in 0..workers.max(1) {
+        for _board in 0..boards_of(workers) {
             judges.push(Judge::make(alloc)?)?;
         }
         Ok(Look {
             nodes: Vec::new(alloc),
             kids: Vec::new(alloc),
             pool: Pool::make(alloc),
+            workers: workers.max(1),
             judges,
+            last: None,
+            places: Vec::new(alloc),
+            tops: Vec::new(alloc),
         })
     }
 
     /// What is found of the cells of `must`, on which the root's player is to place a stone, with
     /// the one that is chosen: one whose row has the highest rank, and of several such ones
-    /// that with the greatest prior. At most `budget` nodes are judged, and at least the root. Who
-    /// is known to win after a stone does, and the line of a row can be played after it.
+    /// that with the greatest prior. The search has at most `budget` nodes, and at least the root.
+    /// Who is known to win after a stone does, and the line of a row can be played after it.
+    ///
+    /// If this root follows that of the last call by one or two moves, made in turn, the nodes that
+    /// are there already are kept, and count.
     ///
     /// It refuses only if memory runs out. A body is proved that walks to any nodes.
     pub fn choose<R: Threads + Sync>(
@@ -93,11 +116,9 @@ impl Look {
         requires budget { 1 ≤ budget }
         ensures { IfOk result (IsLookOf root.now.board.now root.now.colour must budget) }
     {
-        self.nodes.clear();
-        self.kids.clear();
+        self.begin(root, must, budget)?;
         self.make_room(budget.min(NODES_WITH_ROOM), must.count())?;
-        let first = self.opened_root(alloc, root, must)?;
-        self.nodes.push(first)?;
+        self.open_root(alloc, root, must)?;
         'batches: for _batch in 0..u64::from(budget) * BATCHES_PER_NODE {
             let most = self.width(budget);
             if most == 0 {
@@ -107,7 +128,16 @@ impl Look {
         }
         let nodes = self.nodes.len() as u32;
         let looked = self.told(alloc, root, must, nodes)?;
+        self.last = Some(Last {
+            board: *root.board,
+            colour: root.colour,
+        });
         Ok(looked)
+    }
+
+    /// Says that nothing is kept for the next call.
+    pub fn forget(&mut self) {
+        self.last = None;
     }
 
     // Makes room for so many nodes, with so many kids each.
@@ -119,24 +149,23 @@ impl Look {
         Ok(())
     }
 
-    // The root, with kids on these cells.
-    fn opened_root(
-        &mut self,
-        alloc: Global,
-        root: &Root<'_>,
-        must: CellSet,
-    ) -> Result<LookNode, Memory>
-        ensures { self.new.nodes ≡ self.old.nodes }
+    // Puts the root at its place, with kids on these cells, of which some have nodes already.
+    fn open_root(&mut self, alloc: Global, root: &Root<'_>, must: CellSet) -> Result<(), Memory>
+        ensures { length self.new.nodes.items ≡ length self.old.nodes.items }
     {
-        self.pool.clear();
         let Some(judge) = self.judges.first_mut() else {
             return Err(Memory);
         };
         let finding = judge.judged_root(root.board, root.colour, must)?;
-        self.node_of(alloc, 0, &finding, NOWHERE)
+        let node = self.node_of(alloc, 0, &finding, NOWHERE, 0)?;
+        if let Some(first) = self.nodes.first_mut() {
+            *first = node;
+        }
+        self.attach();
+        Ok(())
     }
 
-    // How many boards are judged next: one for each worker, but no more nodes than the budget has,
+    // How many boards are judged next: one for each judge, but no more nodes than the budget has,
     // and none if the root is decided.
     fn width(&self, budget: u32) -> usize
         ensures { 0 < result → length self.now.nodes.items + result ≤ budget }
@@ -212,5 +241,14 @@ impl Look {
             is_lost = node.state == State::Lost;
             place = node.above;
         }
+    }
+}
+
+// How many boards a batch of so many workers has.
+fn boards_of(workers: u32) -> u32 {
+    if workers <= 1 {
+        1
+    } else {
+        workers.saturating_mul(BOARDS_EACH).min(MOST_BOARDS)
     }
 }

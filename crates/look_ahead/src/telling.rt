@@ -6,7 +6,7 @@ ghost use Rattle.hex_cells.specs.Sets.{has};
 ghost use Rattle.look_ahead.specs.Looked.{IsBestCell, IsLinedRow, IsLookOf, IsTrueRow, set_cells};
 ghost use Rattle.look_ahead.specs.Looked.{cells_of_rows, rank_of};
 
-use super::nodes::{Kid, LookNode, State};
+use super::nodes::{LookNode, State};
 use super::refusals::Memory;
 use super::rows::{LookRow, Looked, Outcome, rank_of};
 use super::searches::{Look, Root};
@@ -126,7 +126,7 @@ impl Look {
             value: open_value(fresh_value(mean)),
             taken: None,
         };
-        let Some(kid) = self.root_kid(cell) else {
+        let Some(kid) = self.kid_at(0, cell) else {
             return fresh;
         };
         match self.nodes.get(kid.node as usize) {
@@ -135,22 +135,9 @@ impl Look {
         }
     }
 
-    /// The root's kid on the cell.
-    pub(super) fn root_kid(&self, cell: Cell) -> Option<&Kid> {
-        let root = self.nodes.first()?;
-        for number in root.first..root.first.saturating_add(root.count) {
-            if let Some(kid) = self.kids.get(number as usize)
-                && kid.cell == cell
-            {
-                return Some(kid);
-            }
-        }
-        None
-    }
-
     // The prior of the root's kid on the cell.
     fn prior_at(&self, cell: Cell) -> u32 {
-        match self.root_kid(cell) {
+        match self.kid_at(0, cell) {
             Some(kid) => kid.prior,
             None => 0,
         }

@@ -22,7 +22,7 @@ use search_team::OpenGate;
 use std::alloc::{AllocError, Global};
 use std::thread::Threads;
 use tree_words::Knobs;
-use turn_search::decided_turn;
+use turn_search::{KeptLook, decided_turn};
 
 /// The seeds of two sides, or of one side in two games, are at least this far apart: a side makes
 /// fewer than 2^8 turns, and the seeds of two turns are 2^32 apart.
@@ -111,7 +111,10 @@ fn turn_cell<R: Threads + Sync>(
     ensures turn { IfOk result (IsTurnCell knobs.now means board.now mover turns) }
     ensures on_board { IfOk result (λ cell. cell < board.now.size * board.now.size) }
 {
-    let turn = decided_turn(rt, alloc, board, mover, turns, knobs, means, &OpenGate)?;
+    let mut kept = KeptLook::none();
+    let turn = decided_turn(
+        rt, alloc, board, mover, turns, knobs, means, &OpenGate, &mut kept,
+    )?;
     Ok(turn.cell())
 }
 

@@ -25,7 +25,7 @@ use sim_run::{SimError, simulate};
 use std::alloc::Global;
 use std::thread::Threads;
 use tree_words::{Closed, Knobs, Shape};
-use turn_search::decided_turn;
+use turn_search::{KeptLook, decided_turn};
 
 // The plan of a turn, and the shape of its search.
 #[derive(Drop)]
@@ -125,5 +125,6 @@ pub fn benchmarked_turn<R: Threads + Sync, G: Gate + Sync>(
         &options.knobs,
         options.means,
         gate,
+        &mut KeptLook::none(),
     )
 }

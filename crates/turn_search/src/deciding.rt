@@ -16,11 +16,42 @@ use std::alloc::Global;
 use std::thread::Threads;
 use tree_words::Knobs;
 
+/// What the look-ahead of a session's last turn found, for that of its next one.
+#[derive(Drop)]
+pub struct KeptLook {
+    look: Option<Look>,
+}
+
+impl KeptLook {
+    /// Nothing.
+    pub fn none() -> KeptLook {
+        KeptLook { look: None }
+    }
+
+    /// Says that the next turn begins with nothing, as the first one does.
+    pub fn forget(&mut self) {
+        if let Some(look) = self.look.as_mut() {
+            look.forget();
+        }
+    }
+
+    // Takes it, or one by so many workers that found nothing yet.
+    fn take(&mut self, alloc: Global, workers: u32) -> Result<Look, Memory> {
+        if let Some(look) = self.look.take() {
+            return Ok(look);
+        }
+        match Look::make(alloc, workers) {
+            Ok(look) => Ok(look),
+            Err(_) => Err(Memory),
+        }
+    }
+}
+
 /// The turn after so many `turns` of a session, on this board with `colour` to move. It is planned
 /// with these means. If the plan is no win, it is searched among the cells that the plan allows, by
 /// the workers of the knobs, which pass the gate; or, if the means have a look-ahead, at the one of
-/// these cells that this chooses. The search's seed is that of the knobs plus `turns·2^32`, modulo
-/// 2^64.
+/// these cells that this chooses, which begins with what is kept. The search's seed is that of the
+/// knobs plus `turns·2^32`, modulo 2^64.
 ///
 /// No player is joined on the board, a cell is empty, and the knobs are in their ranges. It refuses
 /// only if memory runs out. The call returns if its workers do.
@@ -33,6 +64,7 @@ pub fn decided_turn<R: Threads + Sync, G: Gate + Sync>(
     knobs: &Knobs,
     means: Means,
     gate: &G,
+    kept: &mut KeptLook,
 ) -> Result<Turn, Memory>
     requires may { may_move board.now ≡ true }
     requires ranges { AreInRange knobs.now }
@@ -42,7 +74,8 @@ pub fn decided_turn<R: Threads + Sync, G: Gate + Sync>(
     let Some(allowed) = planned.allowed() else {
         return Ok(Turn::won(board, colour, turns, planned));
     };
-    let looked = looked_at(rt, alloc, board, colour, allowed, knobs.workers, means)?;
+    let root = Root { board, colour };
+    let looked = looked_at(rt, alloc, &root, allowed, knobs.workers, means, kept)?;
     let cells = searched_cells(allowed, &looked);
     let shape = turn_shape(board, colour, cells, knobs, turns);
     let Ok(closed) = search(rt, alloc, &shape, gate) else {
@@ -55,26 +88,26 @@ pub fn decided_turn<R: Threads + Sync, G: Gate + Sync>(
 fn looked_at<R: Threads + Sync>(
     rt: &R,
     alloc: Global,
-    board: &Board,
-    colour: Colour,
+    root: &Root<'_>,
     allowed: CellSet,
     workers: u32,
     means: Means,
+    kept: &mut KeptLook,
 ) -> Result<Option<Looked>, Memory>
     requires { IsAny allowed }
     ensures there { IfOk result (λ looked. is_some looked ≡ looks_ahead means) }
     ensures chosen { IfOk result (ChoseAmong allowed) }
-    ensures look { IfOk result (IsLookedAt board.now colour allowed means.look) }
+    ensures look { IfOk result (IsLookedAt root.now.board.now root.now.colour allowed means.look) }
 {
     if !means.looks_ahead() {
         return Ok(None);
     }
-    let Ok(mut look) = Look::make(alloc, workers.min(means.look)) else {
-        return Err(Memory);
-    };
-    let root = Root { board, colour };
-    match look.choose(rt, alloc, &root, allowed, means.look) {
-        Ok(looked) => Ok(Some(looked)),
+    let mut look = kept.take(alloc, workers.min(means.look))?;
+    match look.choose(rt, alloc, root, allowed, means.look) {
+        Ok(looked) => {
+            kept.look = Some(look);
+            Ok(Some(looked))
+        }
         Err(_) => Err(Memory),
     }
 }

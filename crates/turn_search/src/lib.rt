@@ -4,8 +4,11 @@
 //! settings, and gets the turn that is owed there:
 //!
 //! ```text
-//! let turn = decided_turn(rt, alloc, board, colour, turns, &knobs, means, &gate)?;
+//! let turn = decided_turn(rt, alloc, board, colour, turns, &knobs, means, &gate, &mut kept)?;
 //! ```
+//!
+//! What the look-ahead finds is kept for the next turn, as long as the caller keeps it
+//! ([`KeptLook`]).
 //!
 //! **What is proved.** The turn is the one that a session with these settings owes
 //! (specs/Owed.antt): it is good, and it has this board, this player and this number. With one
@@ -28,4 +31,4 @@
 
 mod deciding;
 
-pub use deciding::decided_turn;
+pub use deciding::{KeptLook, decided_turn};

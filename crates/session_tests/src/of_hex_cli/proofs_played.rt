@@ -135,3 +135,50 @@ fn looks_ahead(rt: HostRuntime) -> Result<(), Fail> {
 fn looks_are_told(rt: HostRuntime) -> Result<(), Fail> {
     check_rows(&rt, LOOKS)
 }
+
+// The last answer of a session.
+fn last_answer<R: Abort + Threads + Sync + Alloc<A = Global>>(
+    rt: &R,
+    words: &str,
+    input: &str,
+) -> Result<String, Fail> {
+    let mut answers = answers(rt, words, input)?;
+    Ok(answers.pop().ok_or("an answer")?)
+}
+
+// With which cell the line of this cell's row begins.
+fn chosen_line<'a>(vertex: &str, look: &'a str) -> Option<&'a str> {
+    for row in look.lines() {
+        if row.split(' ').next() == Some(vertex)
+            && let Some((_row, line)) = row.split_once(" line ")
+        {
+            return line.split(' ').next();
+        }
+    }
+    None
+}
+
+/// What a look-ahead found serves the next one while only moves are made. After `undo`,
+/// `clear_board` and `boardsize` the same board is looked at as in a fresh session.
+#[test]
+fn keeps_its_tree(rt: HostRuntime) -> Result<(), Fail> {
+    let alloc = rt.alloc();
+    let words = "htp --playouts 1 --look 60";
+    let begin = "play b b2~play w d4~";
+    let first = format!(in alloc; "boardsize 7~{begin}genmove b~look-report~")?;
+    let told = answers(&rt, words, &first)?;
+    let [_, _, _, vertex, look] = told.as_slice() else {
+        return Err(Fail::from("five answers"));
+    };
+    let answer = chosen_line(vertex, look).ok_or("a line")?;
+    let ask = format!(in alloc; "play w {answer}~genmove b~look-report~")?;
+    let fresh = format!(in alloc; "boardsize 7~{begin}play b {vertex}~{ask}")?;
+    let fresh = last_answer(&rt, words, &fresh)?;
+    let kept = format!(in alloc; "{first}{ask}")?;
+    assert!(rt; last_answer(&rt, words, &kept)? != fresh);
+    for (between, moves) in [("undo", ""), ("clear_board", begin), ("boardsize 7", begin)] {
+        let input = format!(in alloc; "{first}{between}~{moves}play b {vertex}~{ask}")?;
+        assert!(rt; last_answer(&rt, words, &input)? == fresh, "{between}");
+    }
+    Ok(())
+}
