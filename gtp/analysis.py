@@ -20,9 +20,9 @@ CERTAIN = 1_000
 IGNORED = {b"minmoves", b"ownership", b"ownershipStdev", b"movesOwnership", b"pvVisits", b"pvEdgeVisits", b"rootInfo"}
 DEFAULT_CENTISECONDS = 100
 FORMS = {
-    b"lz-analyze": "visits {visits} winrate {share:.0f}",
-    b"kata-analyze": "visits {visits} winrate {fraction:.4f} utility {utility:.4f}",
-    b"hexd-analyze": "visits {visits} winrate {share:.0f}",
+    b"lz-analyze": "visits {visits} winrate {share:.0f} prior {prior:.0f}",
+    b"kata-analyze": "visits {visits} winrate {fraction:.4f} utility {utility:.4f} prior {chance:.4f}",
+    b"hexd-analyze": "visits {visits} winrate {share:.0f} prior {prior:.0f}",
 }
 
 
@@ -37,10 +37,15 @@ class Found:
     proved: str = ""
     line: tuple = ()
 
-    def told(self, form, order):
-        """The move in a form of lines."""
+    def told(self, form, order, prior):
+        """The move in a form of lines. Its prior is the part of the first look's walks that went by it, from 0 to 1."""
         numbers = form.format(
-            visits=self.visits, share=10_000 * self.worth, fraction=self.worth, utility=2 * self.worth - 1
+            visits=self.visits,
+            share=10_000 * self.worth,
+            fraction=self.worth,
+            utility=2 * self.worth - 1,
+            prior=10_000 * prior,
+            chance=prior,
         )
         proved = f" proved {self.proved}" if self.proved else ""
         return f"info move {self.cell} {numbers}{proved} order {order} pv {' '.join([self.cell, *self.line])}"
@@ -65,6 +70,12 @@ def found_in(move, plan, look, search):
     if plan.startswith("lost yes"):
         found = [replace(it, worth=0.0, proved="loss") for it in found]
     return sorted((it for it in found if it.visits), key=lambda it: (it.cell != move, -it.visits))
+
+
+def priors_of(found):
+    """The part of all walks that went by each move."""
+    walks = sum(it.visits for it in found)
+    return {it.cell: it.visits / walks for it in found}
 
 
 @dataclass(frozen=True)
@@ -99,6 +110,7 @@ class Analysis:
         self.file = os.memfd_create("position")
         os.write(self.file, record)
         self.nodes, self.engine, self.answers = FIRST, None, b""
+        self.priors = None
         # The last line that isn't written yet, and when one was written.
         self.line, self.written = b"", -self.wanted.seconds
         self.begin()
@@ -149,7 +161,10 @@ class Analysis:
     def take(self, answers):
         move, plan, look, search = answers
         found = found_in(move, plan, look, search)
-        told = " ".join(it.told(self.wanted.form, order) for order, it in enumerate(found[: self.wanted.moves]))
+        if self.priors is None:
+            self.priors = priors_of(found)
+        moves = enumerate(found[: self.wanted.moves])
+        told = " ".join(it.told(self.wanted.form, order, self.priors.get(it.cell, 0.0)) for order, it in moves)
         self.line = told.encode() + b"\n"
         self.end()
         nodes = int(look.split()[1]) if look.startswith("nodes") else self.nodes

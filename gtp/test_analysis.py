@@ -12,14 +12,14 @@ from types import SimpleNamespace
 
 ROOT = Path(__file__).resolve().parent.parent
 sys.path[1:1] = [str(ROOT / "tools"), str(ROOT / "board")]
-from analysis import FORMS, found_in
+from analysis import FORMS, found_in, priors_of
 from moves import Mover
 from shown import shown_worth
 
 LIMIT = 120
 MOVE = {
-    "lz-analyze": r"info move [a-g][1-7] visits \d+ winrate \d{1,5}(?: proved (?:win|loss))? order \d+ pv(?: [a-g][1-7])+",
-    "kata-analyze": r"info move [a-g][1-7] visits \d+ winrate [01]\.\d{4} utility -?[01]\.\d{4}"
+    "lz-analyze": r"info move [a-g][1-7] visits \d+ winrate \d{1,5} prior \d{1,5}(?: proved (?:win|loss))? order \d+ pv(?: [a-g][1-7])+",
+    "kata-analyze": r"info move [a-g][1-7] visits \d+ winrate [01]\.\d{4} utility -?[01]\.\d{4} prior [01]\.\d{4}"
     r"(?: proved (?:win|loss))? order \d+ pv(?: [a-g][1-7])+",
 }
 MOVE["hexd-analyze"] = MOVE["lz-analyze"]
@@ -107,10 +107,10 @@ def end_faults(program):
 # Sessions: the filter's words, lines before the last one, which analyzes, and what its first line has to be.
 FOUND = [
     # Each of White's moves loses, and White is to move.
-    (["--size=2"], ["play b a2"], "hexd-analyze", r"(info move \w+ visits \d+ winrate 0 proved loss order \d pv(?: [ab][12])+ ?){3}"),
-    (["--size=2"], ["play b a2"], "kata-analyze B 1", r"info move [ab]1 visits 1 winrate 1\.0000 utility 1\.0000 proved win order 0 pv [ab]1"),
-    (["--size=2"], [], "lz-analyze interval 1", r"info move \w\d visits 1 winrate 10000 proved win order 0 pv \w\d"),
-    (["--size=9"], ["play b a9"], "lz-analyze 1 maxmoves 1", r"info move \w\d visits \d+ winrate \d+ order 0 pv(?: \w\d)+"),
+    (["--size=2"], ["play b a2"], "hexd-analyze", r"(info move \w+ visits \d+ winrate 0 prior \d+ proved loss order \d pv(?: [ab][12])+ ?){3}"),
+    (["--size=2"], ["play b a2"], "kata-analyze B 1", r"info move [ab]1 visits 1 winrate 1\.0000 utility 1\.0000 prior 1\.0000 proved win order 0 pv [ab]1"),
+    (["--size=2"], [], "lz-analyze interval 1", r"info move \w\d visits 1 winrate 10000 prior 10000 proved win order 0 pv \w\d"),
+    (["--size=9"], ["play b a9"], "lz-analyze 1 maxmoves 1", r"info move \w\d visits \d+ winrate \d+ prior \d+ order 0 pv(?: \w\d)+"),
     # Without connections there is the tree alone.
     (["--size=7", "--hsearch=off"], [], "lz-analyze 1 minmoves 1 maxmoves 2", rf"{MOVE['lz-analyze']} {MOVE['lz-analyze']}"),
     (["--size=5", "--look=1", "--playouts=1"], [], "kata-analyze b 1 ownership true maxmoves 1", r"info move [a-e][1-5] visits .*"),
@@ -132,15 +132,16 @@ def found_faults(program):
 # A look's rows: one that loses, by its line, one that goes on, and one without a walk; and what is told of them.
 LOOK = "nodes 30\na1 2 0 lost line b1\nb2 20 700 line c2 b3\nc3 0 500"
 TOLD = [
-    "info move b2 visits 20 winrate 7000 order 0 pv b2 c2 b3",
-    "info move a1 visits 2 winrate 0 proved loss order 1 pv a1 b1",
+    "info move b2 visits 20 winrate 7000 prior 9091 order 0 pv b2 c2 b3",
+    "info move a1 visits 2 winrate 0 prior 909 proved loss order 1 pv a1 b1",
 ]
 
 
 def row_faults(_program):
     """What is read of a look's rows: what is proved, and the line."""
     found = found_in("b2", "lost no\nallowed a1 b2 c3", LOOK, "")
-    told = [it.told(FORMS[b"lz-analyze"], order) for order, it in enumerate(found)]
+    priors = priors_of(found)
+    told = [it.told(FORMS[b"lz-analyze"], order, priors[it.cell]) for order, it in enumerate(found)]
     worths = [shown_worth(*row.split()[1:]) for row in LOOK.encode().splitlines()[1:]]
     mover = Mover.__new__(Mover)
     mover.hexd = SimpleNamespace(tell={b"mustplay": b"lost no", b"look-report": LOOK.encode()}.get)
