@@ -1,26 +1,28 @@
-"""Pondering, over the built program: what is found is what hexd says without it, and any line ends it at once. gtp/test.py runs
-these."""
+"""Pondering, over the built program: what is found is what hexd says of the same game, and any line ends it at once. gtp/test.py
+runs these."""
 
 import os
 import select
 import signal
 import sys
+import tempfile
 from pathlib import Path
 
 ROOT = Path(__file__).resolve().parent.parent
 sys.path[1:1] = [str(ROOT / "tools"), str(ROOT / "board")]
 from commands import Session
 from engine import Refused, Request
+from ponder import SEED_STEP, SEEDS
 from test_analysis import Driver
 from words import Words
 
 LIMIT = 120
 ASKED = ["mustplay", "search-report", "look-report", "wincert", "printsgf"]
-# The words of sessions, and how many of their moves are compared.
+# The words of sessions, their seeds, how many of their moves need no search, and how many are compared.
 GAMES = [
-    (["--size=5", "--playouts=300", "--hsearch=off", "--swap=off", "--seed=18446744073709551615"], 5),
-    (["--size=7", "--strength=quick", "--swap=off"], 6),
-    (["--size=6", "--look=20", "--playouts=50"], 4),
+    (["--size=5", "--playouts=300", "--hsearch=off", "--swap=off"], SEEDS - 1, 0, 5),
+    (["--size=7", "--strength=quick", "--swap=off"], 0, 0, 6),
+    (["--size=6", "--look=20", "--playouts=50"], 0, 1, 4),
 ]
 
 
@@ -57,22 +59,38 @@ class Table:
         self.session.hexd.close()
 
 
+def said(words, seed, record):
+    """What hexd says of its move, after the reply to a record's game if there is one. A look-ahead keeps what it found for that."""
+    table = Table(*words, f"--seed={seed % SEEDS}")
+    if record:
+        with tempfile.NamedTemporaryFile("w") as file:
+            file.write(record)
+            file.flush()
+            table.do(f"loadsgf {file.name}")
+        table.session.hexd.ask(b"genmove w")
+    answers, _ = table.moved()
+    table.end()
+    return answers
+
+
 def same_faults():
-    """In a game whose replies are the expected ones each answer is as without pondering, and there before it is asked for."""
-    for words, moves in GAMES:
-        with_it, without = Table(*words, "--ponder=on"), Table(*words)
+    """In a game whose replies are the expected ones each answer is hexd's, and there before it is asked for."""
+    for words, seed, unsearched, moves in GAMES:
+        table, record = Table(*words, f"--seed={seed}", "--ponder=on"), ""
         for number in range(moves):
-            (got, process), (want, _) = with_it.moved(), without.moved()
+            got, process = table.moved()
+            # The reply has the seed before.
+            want = said(words, seed + (number and SEED_STEP * (number - 1 - unsearched)), record)
             if got != want or number and process != expected:
                 yield f"{words}, move {number}: {got} by {process}, and without pondering {want}"
-            found = with_it.pondered()
+            found, record = table.pondered(), got[-1]
             if not found:
                 break
             reply, expected = found
-            with_it.do(f"play w {reply}"), without.do(f"play w {reply}")
+            table.do(f"play w {reply}")
         if number < 2:
             yield f"{words}: a game of {number} moves"
-        with_it.end(), without.end()
+        table.end()
 
 
 def other_faults():
