@@ -26,13 +26,6 @@ pub two_at : (c : Context) (i j : ℕ) (a b : ScopedEntry) → entry_at c i ≡ 
 two_at c i j a b h k = ap (λ o. cons_option o (cons_option (entry_at c j) [])) h
     ∙ ap (λ o. cons_option (Some a) (cons_option o [])) k
 
-pub three_at : (c : Context) (i j l : ℕ) (a b d : ScopedEntry) → entry_at c i ≡ Some a
-    → entry_at c j ≡ Some b → entry_at c l ≡ Some d → entries_at c (i ∷ j ∷ l ∷ []) ≡ a ∷ b ∷ d ∷ []
-three_at c i j l a b d h k m
-    = ap (λ o. cons_option o (cons_option (entry_at c j) (cons_option (entry_at c l) []))) h
-    ∙ ap (λ o. cons_option (Some a) (cons_option o (cons_option (entry_at c l) []))) k
-    ∙ ap (λ o. cons_option (Some a) (cons_option (Some b) (cons_option o []))) m
-
 -- ---- the element that two entries share
 
 pick_first : (p q : Bool) (v w : ℕ) → p ≡ true → q ≡ false

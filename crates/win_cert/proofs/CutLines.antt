@@ -1,9 +1,10 @@
 -- The line for an entry that follows from earlier ones is right, in any scope, and is one of the
 -- first version.
 use Rattle.std.proofs.Common.{◌≡◌, ℕ, ◌<◌, ◌≤◌, ◌==◌, true, false, Bool, List, [], ◌∷◌, Some, All}
-use Rattle.std.proofs.Common.{length, take, get_or, refl, sym, ◌∙◌, ap, subst, inl, inr, ◌⊎◌, zero}
+use Rattle.std.proofs.Common.{length, map, take, get_or, refl, sym, ◌∙◌, ap, subst, inl, inr, ◌⊎◌, zero}
 use Rattle.std.proofs.Common.{suc, if◌then◌else◌, arith}
 use Rattle.std.specs.List.{slice_get}
+use Rattle.std.proofs.Math.Seq.{take-nil}
 use Rattle.std.proofs.lemmas.Bool.{ne_eqb, true≢false}
 use Rattle.std.proofs.lemmas.List.{length-map}
 use Rattle.std.proofs.lemmas.List.Elements.{All-cons, All-head, All-nil, All-tail}
@@ -15,7 +16,6 @@ use Rattle.conn_store.specs.declared.entries.Cause.{Cause}
 use Rattle.conn_store.specs.declared.entries.Cause.TheVariants.{Adjacent, AndGroup, AndEmpty, Or}
 use Rattle.conn_store.specs.declared.entries.Entry.{Entry}
 use Rattle.conn_store.specs.declared.entries.Kind.TheVariants.{Full, Semi}
-use Rattle.hsearch.proofs.Orders.{three_of, two_of}
 use Rattle.win_cert.specs.Cuts.{premises, scoped}
 use Rattle.win_cert.specs.Cutting.{IsLineFor}
 use Rattle.win_cert.specs.Entries.{Context, elements_at, entry_at}
@@ -24,9 +24,9 @@ use Rattle.win_cert.specs.declared.certs.TheConstants.{FIRST_VERSION}
 use Rattle.win_cert.specs.declared.lines.Line.{Line}
 use Rattle.win_cert.specs.declared.lines.Line.TheVariants.{Or2, Or3}
 use Rattle.win_cert.specs.declared.lines.TheConstants.{MOST_NUMBER}
-use Rattle.win_cert.proofs.CutSteps.{IsChainAt, IsRight, IsWayAt, adj_right, and_right, key_right}
-use Rattle.win_cert.proofs.CutSteps.{three_right, two_right}
-use Rattle.conn_store.proofs.RuleEntries.{both_full, all_full}
+use Rattle.win_cert.proofs.CutSteps.{IsChainAt, IsRight, adj_right, and_right, key_right}
+use Rattle.win_cert.proofs.CutSteps.{three_reasons, two_reasons}
+use Rattle.win_cert.proofs.ManyLines.{AreThere, few_ways, ways_right}
 
 -- the entry with number i was given by the line with its new number
 abbrev pub IsPlaced : Context → List ℕ → List Entry → ℕ → Type 0
@@ -49,61 +49,24 @@ AreOrdered from = (i : ℕ) (b : Entry) → slice_get from i ≡ Some b → b.x 
 
 -- ---- `or`
 
-way_at : (cx : Context) (renamed : List ℕ) (from : List Entry) (a b : Entry) (i : ℕ) → a.x < a.y
-    → slice_get from i ≡ Some b → IsPlaced cx renamed from i
-    → b.kind ≡ Semi → IsBetween b a.x a.y → IsWayAt cx (get_or renamed i 0) b a
-way_at cx renamed from a b i l h p k q = record { at = p b h; kind_is = k; order = l; pair = q }
-
-over_two : (cx : Context) (renamed : List ℕ) (from : List Entry) (a : Entry) (i j : ℕ)
-    (ways : List Entry) → a.x < a.y
-    → AreAt from (i ∷ j ∷ []) ways → OrRule ways a.x a.y → a.kind ≡ Full → a.carrier ≡ union_of ways
-    → IsPlaced cx renamed from i → IsPlaced cx renamed from j
-    → IsRight cx (Or2 (get_or renamed i 0) (get_or renamed j 0)) a
-over_two cx renamed from a i j [] l t r k c p q = absurd (cc)
-over_two cx renamed from a i j (b ∷ []) l t r k c p q = absurd (cc)
-over_two cx renamed from a i j (b ∷ d ∷ []) l t r k c p q =
-    let u = first_at from i (j ∷ []) b (d ∷ []) t in
-    let v = first_at from j [] d [] u.1 in
-    let w = two_of b d a.x a.y r in
-    two_right cx (get_or renamed i 0) (get_or renamed j 0) b d a
-    (way_at cx renamed from a b i l u.0 p w.first_kind w.first_pair)
-    (way_at cx renamed from a d j l v.0 q w.second_kind w.second_pair)
-    (λ z. both_full (has b.carrier z) (has d.carrier z) (w.free z)) k c
-over_two cx renamed from a i j (b ∷ d ∷ f ∷ ways) l t r k c p q = absurd (cc)
-
-over_three : (cx : Context) (renamed : List ℕ) (from : List Entry) (a : Entry) (i j m : ℕ)
-    (ways : List Entry) → a.x < a.y
-    → AreAt from (i ∷ j ∷ m ∷ []) ways → OrRule ways a.x a.y → a.kind ≡ Full
-    → a.carrier ≡ union_of ways → IsPlaced cx renamed from i → IsPlaced cx renamed from j
-    → IsPlaced cx renamed from m
-    → IsRight cx (Or3 (get_or renamed i 0) (get_or renamed j 0) (get_or renamed m 0)) a
-over_three cx renamed from a i j m [] l t r k c p q s = absurd (cc)
-over_three cx renamed from a i j m (b ∷ []) l t r k c p q s = absurd (cc)
-over_three cx renamed from a i j m (b ∷ d ∷ []) l t r k c p q s = absurd (cc)
-over_three cx renamed from a i j m (b ∷ d ∷ f ∷ []) l t r k c p q s =
-    let u = first_at from i (j ∷ m ∷ []) b (d ∷ f ∷ []) t in
-    let v = first_at from j (m ∷ []) d (f ∷ []) u.1 in
-    let x = first_at from m [] f [] v.1 in
-    let w = three_of b d f a.x a.y r in
-    three_right cx (get_or renamed i 0) (get_or renamed j 0) (get_or renamed m 0) b d f a
-    (way_at cx renamed from a b i l u.0 p w.first_kind w.first_pair)
-    (way_at cx renamed from a d j l v.0 q w.second_kind w.second_pair)
-    (way_at cx renamed from a f m l x.0 s w.third_kind w.third_pair)
-    (λ z. all_full (has b.carrier z) (has d.carrier z) (has f.carrier z) (w.free z)) k c
-over_three cx renamed from a i j m (b ∷ d ∷ f ∷ g ∷ ways) l t r k c p q s = absurd (cc)
-
-few_ways : (ways : List Entry) (x y n : ℕ) → OrRule ways x y → length ways ≡ n → n < 2 → ⊥
-few_ways ways x y n r h l = few r.number
-  where
-    few : (length ways ≡ 2) ⊎ (length ways ≡ 3) → ⊥
-    few (inl q) = absurd (omega arith)
-    few (inr q) = absurd (omega arith)
-
 -- ways that two or three of the numbers name
 pub number_of_ways : (from : List Entry) (numbers : List ℕ) (ways : List Entry)
     → AreAt from numbers ways → length ways ≡ length numbers
 number_of_ways from numbers ways h = sym (length-map ways Some) ∙ sym (ap length h)
     ∙ length-map numbers (slice_get from)
+
+-- where the entries with these numbers are placed, the lines with their new numbers gave them
+all_placed : (cx : Context) (renamed : List ℕ) (from : List Entry) (numbers : List ℕ)
+    (ways : List Entry) → AreAt from numbers ways → All (IsPlaced cx renamed from) numbers
+    → AreThere cx (map (λ i. get_or renamed i 0) numbers) ways
+all_placed cx renamed from [] [] t p = refl
+all_placed cx renamed from [] (a ∷ ways) t p = absurd (cc)
+all_placed cx renamed from (i ∷ numbers) [] t p = absurd (cc)
+all_placed cx renamed from (i ∷ numbers) (a ∷ ways) t p =
+    let w = first_at from i numbers a ways t in
+    let P = IsPlaced cx renamed from in
+    ap (λ o. o ∷ map (entry_at cx) (map (λ i. get_or renamed i 0) numbers)) (All-head P i numbers p a w.0)
+    ∙ ap (λ l. Some (scoped cx.scope a) ∷ l) (all_placed cx renamed from numbers ways w.1 (All-tail P i numbers p))
 
 or_right : (cx : Context) (renamed : List ℕ) (from : List Entry) (a : Entry) (line : Line)
     (numbers : List ℕ) (count : ℕ) (ways : List Entry)
@@ -119,23 +82,19 @@ or_right cx renamed from a line (i ∷ j ∷ m ∷ []) zero ways l n t r k c p h
     = absurd (few_ways ways a.x a.y 0 r (number_of_ways from [] ways t) (omega arith))
 or_right cx renamed from a line (i ∷ j ∷ m ∷ []) (suc zero) ways l n t r k c p h
     = absurd (few_ways ways a.x a.y 1 r (number_of_ways from (i ∷ []) ways t) (omega arith))
-or_right cx renamed from a line (i ∷ j ∷ m ∷ []) (suc (suc zero)) ways l n t r k c p h
-    = subst (λ v. IsRight cx v a) (sym h.1)
-    (over_two cx renamed from a i j ways l t r k c (All-head (IsPlaced cx renamed from) i (j ∷ []) p) (second_in (IsPlaced cx renamed from) i j [] p))
-or_right cx renamed from a line (i ∷ j ∷ m ∷ []) (suc (suc (suc zero))) ways l n t r k c p h
-    = subst (λ v. IsRight cx v a) (sym h.1)
-    (over_three cx renamed from a i j m ways l t r k c (All-head (IsPlaced cx renamed from) i (j ∷ m ∷ []) p) (second_in (IsPlaced cx renamed from) i j (m ∷ []) p) (third_in (IsPlaced cx renamed from) i j m [] p))
-or_right cx renamed from a line (i ∷ j ∷ m ∷ [])
-    (suc (suc (suc (suc count)))) ways l n t r k c p h =
-    let P = IsPlaced cx renamed from in
-    let no : (suc (suc (suc (suc count))) == 2) ≡ false
-    = ne_eqb (suc (suc (suc (suc count)))) 2 (λ q. absurd (omega arith)) in
-    let all : All P (i ∷ j ∷ m ∷ [])
-    = subst (λ v. All P (i ∷ j ∷ (if v then [] else m ∷ []))) no p in
+or_right cx renamed from a line (i ∷ j ∷ m ∷ []) (suc (suc zero)) ways l n t r k c p h =
     let two = Or2 (get_or renamed i 0) (get_or renamed j 0) in
-    let three = Or3 (get_or renamed i 0) (get_or renamed j 0) (get_or renamed m 0) in
-    subst (λ v. IsRight cx v a) (sym (h.1 ∙ ap (λ v. if v then two else three) no))
-    (over_three cx renamed from a i j m ways l t r k c (All-head P i (j ∷ m ∷ []) all) (second_in P i j (m ∷ []) all) (third_in P i j m [] all))
+    subst (λ v. IsRight cx v a) (sym h.1)
+    (ways_right cx two (get_or renamed i 0 ∷ get_or renamed j 0 ∷ []) ways a refl (two_reasons cx (get_or renamed i 0) (get_or renamed j 0)) refl l (all_placed cx renamed from (i ∷ j ∷ []) ways t p) r k c)
+or_right cx renamed from a line (i ∷ j ∷ m ∷ []) (suc (suc (suc count))) ways l n t r k c p h =
+    let x : ℕ = get_or renamed i 0 in
+    let y : ℕ = get_or renamed j 0 in
+    let z : ℕ = get_or renamed m 0 in
+    let no = ne_eqb (suc (suc (suc count))) 2 (λ q. absurd (omega arith)) in
+    let all = subst (λ v. All (IsPlaced cx renamed from) (i ∷ j ∷ (if v then [] else m ∷ []))) no p in
+    let at = subst (λ v. AreAt from (i ∷ j ∷ m ∷ v) ways) (take-nil count) t in
+    subst (λ v. IsRight cx v a) (sym (h.1 ∙ ap (λ v. if v then Or2 x y else Or3 x y z) no))
+    (ways_right cx (Or3 x y z) (x ∷ y ∷ z ∷ []) ways a refl (three_reasons cx x y z) refl l (all_placed cx renamed from (i ∷ j ∷ m ∷ []) ways at all) r k c)
 
 -- ---- each rule
 
@@ -164,12 +123,14 @@ rule_right cx renamed from a line Adjacent o l f h p =
     (adj_right cx a x y l f.0 f.1 f.2 v.element w.element v.other w.other)
 rule_right cx renamed from a line (AndGroup i j) o l (b, d, x, u, y, t, r, g, w, k, c) h p =
     subst (λ z. IsRight cx z a) (sym h)
-    (and_right cx (get_or renamed i 0) (get_or renamed j 0) b d a x u y
-    (chain_at cx renamed from b d x u y i j o t r (All-head (IsPlaced cx renamed from) i (j ∷ []) p) (second_in (IsPlaced cx renamed from) i j [] p)) g w k c)
+    (and_right cx (get_or renamed i 0) (get_or renamed j 0) b d x u y
+    (chain_at cx renamed from b d x u y i j o t r (All-head (IsPlaced cx renamed from) i (j ∷ []) p) (second_in (IsPlaced cx renamed from) i j [] p))
+    a g w k c)
 rule_right cx renamed from a line (AndEmpty i j) o l (b, d, x, u, y, z, t, r, g, w, k, c) h p =
     subst (λ v. IsRight cx v a) (sym h)
-    (key_right cx (get_or renamed i 0) (get_or renamed j 0) b d a x u y z
-    (chain_at cx renamed from b d x u y i j o t r (All-head (IsPlaced cx renamed from) i (j ∷ []) p) (second_in (IsPlaced cx renamed from) i j [] p)) g w k c)
+    (key_right cx (get_or renamed i 0) (get_or renamed j 0) b d x u y
+    (chain_at cx renamed from b d x u y i j o t r (All-head (IsPlaced cx renamed from) i (j ∷ []) p) (second_in (IsPlaced cx renamed from) i j [] p))
+    a z g w k c)
 rule_right cx renamed from a line (Or numbers count) o l (ways, t, r, k, c) h p
     = or_right cx renamed from a line numbers count ways l h.0 t r k c p h
 

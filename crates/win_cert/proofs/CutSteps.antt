@@ -42,7 +42,7 @@ use Rattle.win_cert.specs.declared.lines.End.{End}
 use Rattle.win_cert.specs.declared.lines.Line.{Line}
 use Rattle.win_cert.specs.declared.lines.Line.TheVariants.{Adj, And, Key, Or2, Or3, OrMany}
 use Rattle.win_cert.proofs.CutChains.{ends_are, group_none, middle_is, missed, none_shared}
-use Rattle.win_cert.proofs.CutChains.{other_is, two_at, three_at}
+use Rattle.win_cert.proofs.CutChains.{other_is, two_at}
 use Rattle.win_cert.proofs.LinksOn.{cell_is}
 use Rattle.conn_store.proofs.RuleEntries.{both_full}
 use Rattle.hsearch.proofs.Orders.{turned_pair}
@@ -152,43 +152,6 @@ between_differ : (a : Entry) (x y : ℕ) → IsBetween a x y → a.x < a.y → x
 between_differ a x y h l e = let p : a.x ≡ min x y = h.0 in let q : a.y ≡ max x y = h.1 in
     absurd (omega arith)
 
-chain_middle : (c : Context) (i j : ℕ) (a b : Entry) (x u y : ℕ) → IsChainAt c i j a b x u y
-    → middle_of (scoped c.scope a) (scoped c.scope b) ≡ Some u
-chain_middle c i j a b x u y w =
-    let r = w.rule.chain in
-    let t = turned_pair b u y r.second in
-    middle_is (scoped c.scope a) (scoped c.scope b) x u y
-    (ends_are (scoped c.scope a) x u r.first.0 r.first.1)
-    (ends_are (scoped c.scope b) y u t.0 t.1)
-    (between_differ a x u r.first w.first_order) r.ends
-
-chain_first : (c : Context) (i j : ℕ) (a b : Entry) (x u y : ℕ) → IsChainAt c i j a b x u y
-    → other_end (scoped c.scope a) u ≡ x
-chain_first c i j a b x u y w =
-    let r = w.rule.chain in
-    other_is (scoped c.scope a) x u (ends_are (scoped c.scope a) x u r.first.0 r.first.1)
-    (between_differ a x u r.first w.first_order)
-
-chain_second : (c : Context) (i j : ℕ) (a b : Entry) (x u y : ℕ) → IsChainAt c i j a b x u y
-    → other_end (scoped c.scope b) u ≡ y
-chain_second c i j a b x u y w =
-    let r = w.rule.chain in
-    let t = turned_pair b u y r.second in
-    other_is (scoped c.scope b) y u (ends_are (scoped c.scope b) y u t.0 t.1)
-    (between_differ b y u t w.second_order)
-
-chain_pair : (c : Context) (i j : ℕ) (a b : Entry) (x u y : ℕ) → IsChainAt c i j a b x u y
-    → entries_at c (i ∷ j ∷ []) ≡ scoped c.scope a ∷ scoped c.scope b ∷ []
-chain_pair c i j a b x u y w = two_at c i j (scoped c.scope a) (scoped c.scope b) w.first w.second
-
--- whether something holds of two entries and their middle
-holds_is : (test : ScopedEntry → ScopedEntry → ℕ → Bool) (c : Context) (i j : ℕ) (a b : Entry)
-    (x u y : ℕ) → IsChainAt c i j a b x u y
-    → holds_of_chain test (entries_at c (i ∷ j ∷ [])) ≡ test (scoped c.scope a) (scoped c.scope b) u
-holds_is test c i j a b x u y w = ap (holds_of_chain test) (chain_pair c i j a b x u y w)
-    ∙ ap (λ o. option_map_or (test (scoped c.scope a) (scoped c.scope b)) o false)
-    (chain_middle c i j a b x u y w)
-
 full_taken : (s : Statement) (a : Entry) (b : Bool) → kind_taken s ≡ Full → a.kind ≡ Full
     → a.x < a.y → (same_kind a.kind (kind_taken s) && not (b && a.x == a.y)) ≡ true
 full_taken s a b h k l = ap (λ v. same_kind v (kind_taken s) && not (b && a.x == a.y)) k
@@ -200,81 +163,98 @@ bad_two true true h k = refl
 bad_two true false h k = absurd (false≢true k)
 bad_two false q h k = absurd (false≢true h)
 
-chain_taken : (c : Context) (i j : ℕ) (a b : Entry) (x u y : ℕ) (s : Statement)
-    → kind_taken s ≡ Full → IsChainAt c i j a b x u y
-    → not (may_take s (entry_at c i) && (may_take s (entry_at c j) && true)) ≡ false
-chain_taken c i j a b x u y s h w = bad_two (may_take s (entry_at c i)) (may_take s (entry_at c j))
-    (ap (may_take s) w.first ∙ full_taken s a (is_chain s || is_or s) h w.rule.first_kind w.first_order)
-    (ap (may_take s) w.second ∙ full_taken s b (is_chain s || is_or s) h w.rule.second_kind w.second_order)
-
-chain_apart : (c : Context) (i j : ℕ) (a b : Entry) (x u y : ℕ) → IsChainAt c i j a b x u y
-    → share_cell (entries_at c (i ∷ j ∷ [])) ≡ false
-chain_apart c i j a b x u y w = ap share_cell (chain_pair c i j a b x u y w)
-    ∙ none_shared (scoped c.scope a ∷ scoped c.scope b ∷ [])
-    (λ k. both_full (has a.carrier k) (has b.carrier k) (w.rule.apart k))
-
-chain_ends : (c : Context) (i j : ℕ) (a b : Entry) (x u y : ℕ) → IsChainAt c i j a b x u y
-    → holds_of_chain
-    (λ v w z. is_cell_in (elements_at c) (other_end v z) w.carrier || is_cell_in (elements_at c) (other_end w z) v.carrier) (entries_at c (i ∷ j ∷ [])) ≡ false
-chain_ends c i j a b x u y w
-    = holds_is (λ v w z. is_cell_in (elements_at c) (other_end v z) w.carrier || is_cell_in (elements_at c) (other_end w z) v.carrier) c i j a b x u y w
-    ∙ or_from (is_cell_in (elements_at c) (other_end (scoped c.scope a) u) b.carrier)
-    (is_cell_in (elements_at c) (other_end (scoped c.scope b) u) a.carrier)
-    (ap (λ v. is_cell_in (elements_at c) v b.carrier) (chain_first c i j a b x u y w) ∙ missed (elements_at c) x b.carrier w.rule.first_end)
-    (ap (λ v. is_cell_in (elements_at c) v a.carrier) (chain_second c i j a b x u y w) ∙ missed (elements_at c) y a.carrier w.rule.second_end)
-
 two_scopes : (s : ℕ) → not (s == s && (s == s && true)) ≡ false
 two_scopes s = bad_two (s == s) (s == s) (eq-eqb s s refl) (eq-eqb s s refl)
 
-chain_scope : (c : Context) (i j : ℕ) (a b : Entry) (x u y : ℕ) → IsChainAt c i j a b x u y
-    → not (list_all (λ v. v.scope == c.scope) (entries_at c (i ∷ j ∷ []))) ≡ false
-chain_scope c i j a b x u y w = ap (λ v. not (list_all (λ v. v.scope == c.scope) v))
-    (chain_pair c i j a b x u y w) ∙ two_scopes c.scope
+module _ (c : Context) (i j : ℕ) (a b : Entry) (x u y : ℕ) (w : IsChainAt c i j a b x u y) where
+  chain_middle : middle_of (scoped c.scope a) (scoped c.scope b) ≡ Some u
+  chain_middle =
+      let r = w.rule.chain in
+      let t = turned_pair b u y r.second in
+      middle_is (scoped c.scope a) (scoped c.scope b) x u y
+      (ends_are (scoped c.scope a) x u r.first.0 r.first.1)
+      (ends_are (scoped c.scope b) y u t.0 t.1)
+      (between_differ a x u r.first w.first_order) r.ends
 
-pub and_right : (c : Context) (i j : ℕ) (a b r : Entry) (x u y : ℕ) → IsChainAt c i j a b x u y
-    → IsGroup (elements_at c) u → IsBetween r x y → r.kind ≡ Full → r.carrier ≡ both_of a b
-    → IsRight c (And i j) r
-and_right c i j a b r x u y w g h k m =
-    let s = Derivation (And i j) in
-    let d = elements_at c in (
-      ap (and_entry c) (chain_pair c i j a b x u y w)
-          ∙ ap (option_map (λ v. entry_between c Full (other_end (scoped c.scope a) v) (other_end (scoped c.scope b) v) (carriers_of (scoped c.scope a ∷ scoped c.scope b ∷ [])))) (chain_middle c i j a b x u y w)
-          ∙ ap (λ v. Some (entry_between c Full v (other_end (scoped c.scope b) u) (carriers_of (scoped c.scope a ∷ scoped c.scope b ∷ [])))) (chain_first c i j a b x u y w)
-          ∙ ap (λ v. Some (entry_between c Full x v (carriers_of (scoped c.scope a ∷ scoped c.scope b ∷ [])))) (chain_second c i j a b x u y w)
-          ∙ ap Some (same_entry r Full (min x y) (max x y) (bit_or a.carrier (bit_or b.carrier 0)) c.scope (sym k) (sym h.0) (sym h.1) (ap (bit_or a.carrier) (or_zero_r b.carrier) ∙ sym m)),
-      and_reasons c i j ∙ chain_clear (is_bad_reference c s) (is_wrong_scope c s)
-          (has_no_middle c s) (do_carriers_meet c s) (is_end_in_carrier c s) (is_middle_wrong c s)
-          (chain_taken c i j a b x u y s refl w) (chain_scope c i j a b x u y w)
-          (ap not (holds_is (λ v w z. true) c i j a b x u y w)) (chain_apart c i j a b x u y w)
-          (chain_ends c i j a b x u y w)
-          (holds_is (λ v w z. is_some (cell_of d z)) c i j a b x u y w ∙ group_none d u g),
-    )
+  chain_first : other_end (scoped c.scope a) u ≡ x
+  chain_first = let r = w.rule.chain.first in
+      other_is (scoped c.scope a) x u (ends_are (scoped c.scope a) x u r.0 r.1)
+      (between_differ a x u r w.first_order)
 
-pub key_right : (c : Context) (i j : ℕ) (a b r : Entry) (x u y k : ℕ) → IsChainAt c i j a b x u y
-    → IsCell (elements_at c) u k → IsBetween r x y → r.kind ≡ Semi
-    → r.carrier ≡ with_cell (both_of a b) k
-    → IsRight c (Key i j) r
-key_right c i j a b r x u y k w g h n m =
-    let s = Derivation (Key i j) in
-    let d = elements_at c in
-    let all = carriers_of (scoped c.scope a ∷ scoped c.scope b ∷ []) in
-    let f : ℕ → ℕ → ScopedEntry = λ v q. entry_between c Semi (other_end (scoped c.scope a) v)
-    (other_end (scoped c.scope b) v) (with_cell all q) in (
-      ap (key_entry c) (chain_pair c i j a b x u y w)
-          ∙ ap (option_and_then (λ v. option_map (f v) (cell_of d v)))
-          (chain_middle c i j a b x u y w)
-          ∙ ap (option_map (f u)) (cell_is d u k g)
-          ∙ ap (λ v. Some (entry_between c Semi v (other_end (scoped c.scope b) u) (with_cell all k))) (chain_first c i j a b x u y w)
-          ∙ ap (λ v. Some (entry_between c Semi x v (with_cell all k)))
-          (chain_second c i j a b x u y w)
-          ∙ ap Some (same_entry r Semi (min x y) (max x y) (with_cell all k) c.scope (sym n) (sym h.0) (sym h.1) (ap (λ v. with_cell (bit_or a.carrier v) k) (or_zero_r b.carrier) ∙ sym m)),
-      key_reasons c i j ∙ chain_clear (is_bad_reference c s) (is_wrong_scope c s)
-          (has_no_middle c s) (do_carriers_meet c s) (is_end_in_carrier c s) (is_middle_wrong c s)
-          (chain_taken c i j a b x u y s refl w) (chain_scope c i j a b x u y w)
-          (ap not (holds_is (λ v w z. true) c i j a b x u y w)) (chain_apart c i j a b x u y w)
-          (chain_ends c i j a b x u y w)
-          (holds_is (λ v w z. is_none (cell_of d z)) c i j a b x u y w ∙ ap is_none (cell_is d u k g)),
-    )
+  chain_second : other_end (scoped c.scope b) u ≡ y
+  chain_second = let t = turned_pair b u y w.rule.chain.second in
+      other_is (scoped c.scope b) y u (ends_are (scoped c.scope b) y u t.0 t.1)
+      (between_differ b y u t w.second_order)
+
+  chain_pair : entries_at c (i ∷ j ∷ []) ≡ scoped c.scope a ∷ scoped c.scope b ∷ []
+  chain_pair = two_at c i j (scoped c.scope a) (scoped c.scope b) w.first w.second
+
+  -- whether something holds of the two entries and their middle
+  holds_is : (test : ScopedEntry → ScopedEntry → ℕ → Bool)
+      → holds_of_chain test (entries_at c (i ∷ j ∷ [])) ≡ test (scoped c.scope a) (scoped c.scope b) u
+  holds_is test = ap (holds_of_chain test) chain_pair
+      ∙ ap (λ o. option_map_or (test (scoped c.scope a) (scoped c.scope b)) o false) chain_middle
+
+  chain_taken : (s : Statement) → kind_taken s ≡ Full
+      → not (may_take s (entry_at c i) && (may_take s (entry_at c j) && true)) ≡ false
+  chain_taken s h = bad_two (may_take s (entry_at c i)) (may_take s (entry_at c j))
+      (ap (may_take s) w.first ∙ full_taken s a (is_chain s || is_or s) h w.rule.first_kind w.first_order)
+      (ap (may_take s) w.second ∙ full_taken s b (is_chain s || is_or s) h w.rule.second_kind w.second_order)
+
+  chain_apart : share_cell (entries_at c (i ∷ j ∷ [])) ≡ false
+  chain_apart = ap share_cell chain_pair ∙ none_shared (scoped c.scope a ∷ scoped c.scope b ∷ [])
+      (λ k. both_full (has a.carrier k) (has b.carrier k) (w.rule.apart k))
+
+  chain_ends : holds_of_chain
+      (λ v w z. is_cell_in (elements_at c) (other_end v z) w.carrier || is_cell_in (elements_at c) (other_end w z) v.carrier)
+      (entries_at c (i ∷ j ∷ [])) ≡ false
+  chain_ends =
+      let d = elements_at c in
+      holds_is (λ v w z. is_cell_in d (other_end v z) w.carrier || is_cell_in d (other_end w z) v.carrier)
+      ∙ or_from (is_cell_in d (other_end (scoped c.scope a) u) b.carrier)
+      (is_cell_in d (other_end (scoped c.scope b) u) a.carrier)
+      (ap (λ v. is_cell_in d v b.carrier) chain_first ∙ missed d x b.carrier w.rule.first_end)
+      (ap (λ v. is_cell_in d v a.carrier) chain_second ∙ missed d y a.carrier w.rule.second_end)
+
+  chain_scope : not (list_all (λ v. v.scope == c.scope) (entries_at c (i ∷ j ∷ []))) ≡ false
+  chain_scope = ap (λ v. not (list_all (λ v. v.scope == c.scope) v)) chain_pair ∙ two_scopes c.scope
+
+  pub and_right : (r : Entry) → IsGroup (elements_at c) u → IsBetween r x y → r.kind ≡ Full
+      → r.carrier ≡ both_of a b → IsRight c (And i j) r
+  and_right r g h k m =
+      let s = Derivation (And i j) in
+      let d = elements_at c in
+      let all = carriers_of (scoped c.scope a ∷ scoped c.scope b ∷ []) in (
+        ap (and_entry c) chain_pair
+            ∙ ap (option_map (λ v. entry_between c Full (other_end (scoped c.scope a) v) (other_end (scoped c.scope b) v) all)) chain_middle
+            ∙ ap (λ v. Some (entry_between c Full v (other_end (scoped c.scope b) u) all)) chain_first
+            ∙ ap (λ v. Some (entry_between c Full x v all)) chain_second
+            ∙ ap Some (same_entry r Full (min x y) (max x y) all c.scope (sym k) (sym h.0) (sym h.1) (ap (bit_or a.carrier) (or_zero_r b.carrier) ∙ sym m)),
+        and_reasons c i j ∙ chain_clear (is_bad_reference c s) (is_wrong_scope c s)
+            (has_no_middle c s) (do_carriers_meet c s) (is_end_in_carrier c s) (is_middle_wrong c s)
+            (chain_taken s refl) chain_scope (ap not (holds_is (λ v w z. true))) chain_apart
+            chain_ends (holds_is (λ v w z. is_some (cell_of d z)) ∙ group_none d u g),
+      )
+
+  pub key_right : (r : Entry) (k : ℕ) → IsCell (elements_at c) u k → IsBetween r x y
+      → r.kind ≡ Semi → r.carrier ≡ with_cell (both_of a b) k → IsRight c (Key i j) r
+  key_right r k g h n m =
+      let s = Derivation (Key i j) in
+      let d = elements_at c in
+      let all = carriers_of (scoped c.scope a ∷ scoped c.scope b ∷ []) in
+      let f : ℕ → ℕ → ScopedEntry = λ v q. entry_between c Semi (other_end (scoped c.scope a) v)
+      (other_end (scoped c.scope b) v) (with_cell all q) in (
+        ap (key_entry c) chain_pair
+            ∙ ap (option_and_then (λ v. option_map (f v) (cell_of d v))) chain_middle
+            ∙ ap (option_map (f u)) (cell_is d u k g)
+            ∙ ap (λ v. Some (entry_between c Semi v (other_end (scoped c.scope b) u) (with_cell all k))) chain_first
+            ∙ ap (λ v. Some (entry_between c Semi x v (with_cell all k))) chain_second
+            ∙ ap Some (same_entry r Semi (min x y) (max x y) (with_cell all k) c.scope (sym n) (sym h.0) (sym h.1) (ap (λ v. with_cell (bit_or a.carrier v) k) (or_zero_r b.carrier) ∙ sym m)),
+        key_reasons c i j ∙ chain_clear (is_bad_reference c s) (is_wrong_scope c s)
+            (has_no_middle c s) (do_carriers_meet c s) (is_end_in_carrier c s) (is_middle_wrong c s)
+            (chain_taken s refl) chain_scope (ap not (holds_is (λ v w z. true))) chain_apart
+            chain_ends (holds_is (λ v w z. is_none (cell_of d z)) ∙ ap is_none (cell_is d u k g)),
+      )
 
 -- ---- `or`
 
@@ -309,94 +289,6 @@ or_clear p q r s a b c d
     = told_next p BadReference _ a
     (told_next q WrongScope _ b (told_next r EndsDiffer _ c (told_next s CommonCell _ d refl)))
 
--- the numbers name semi entries of the elements of r
-pub record IsWayAt (c : Context) (i : ℕ) (a r : Entry) : Type 0 where
-  pub at : entry_at c i ≡ Some (scoped c.scope a)
-  pub kind_is : a.kind ≡ Semi
-  pub order : r.x < r.y
-  pub pair : IsBetween a r.x r.y
-
-way_first : (c : Context) (i : ℕ) (a r : Entry) → IsWayAt c i a r → a.x ≡ r.x
-way_first c i a r w = let p : a.x ≡ min r.x r.y = w.pair.0 in
-    let l : r.x < r.y = w.order in omega arith
-
-way_second : (c : Context) (i : ℕ) (a r : Entry) → IsWayAt c i a r → a.y ≡ r.y
-way_second c i a r w = let p : a.y ≡ max r.x r.y = w.pair.1 in
-    let l : r.x < r.y = w.order in omega arith
-
-way_differ : (c : Context) (i : ℕ) (a r : Entry) → IsWayAt c i a r → a.x ≡ a.y → ⊥
-way_differ c i a r w q = let l : r.x < r.y = w.order in let e : a.x ≡ r.x = way_first c i a r w in
-    let f : a.y ≡ r.y = way_second c i a r w in absurd (omega arith)
-
-way_taken : (c : Context) (i : ℕ) (a r : Entry) (s : Statement) → kind_taken s ≡ Semi
-    → IsWayAt c i a r → may_take s (entry_at c i) ≡ true
-way_taken c i a r s h w = ap (may_take s) w.at
-    ∙ ap (λ v. same_kind v (kind_taken s) && not ((is_chain s || is_or s) && a.x == a.y)) w.kind_is
-    ∙ ap (λ v. same_kind Semi v && not ((is_chain s || is_or s) && a.x == a.y)) h
-    ∙ ap not (and_no (is_chain s || is_or s) (a.x == a.y) (ne_eqb a.x a.y (way_differ c i a r w)))
-
-ways_alike : (c : Context) (i j : ℕ) (a b r : Entry) → IsWayAt c i a r → IsWayAt c j b r
-    → (a.x == b.x && a.y == b.y) ≡ true
-ways_alike c i j a b r v w
-    = and_from (a.x == b.x) (a.y == b.y)
-    (eq-eqb a.x b.x (way_first c i a r v ∙ sym (way_first c j b r w)))
-    (eq-eqb a.y b.y (way_second c i a r v ∙ sym (way_second c j b r w)))
-
-bad_three : (p q t : Bool) → p ≡ true → q ≡ true → t ≡ true → not (p && (q && (t && true))) ≡ false
-bad_three true true true h k m = refl
-bad_three true true false h k m = absurd (false≢true m)
-bad_three true false t h k m = absurd (false≢true k)
-bad_three false q t h k m = absurd (false≢true h)
-
 pub bad_one : (p : Bool) → p ≡ true → not (p && true) ≡ false
 bad_one true h = refl
 bad_one false h = absurd (false≢true h)
-
-way_min : (c : Context) (i : ℕ) (a r : Entry) → IsWayAt c i a r → min a.x a.y ≡ r.x
-way_min c i a r w = let l : r.x < r.y = w.order in let e : a.x ≡ r.x = way_first c i a r w in
-    let f : a.y ≡ r.y = way_second c i a r w in omega arith
-
-way_max : (c : Context) (i : ℕ) (a r : Entry) → IsWayAt c i a r → max a.x a.y ≡ r.y
-way_max c i a r w = let l : r.x < r.y = w.order in let e : a.x ≡ r.x = way_first c i a r w in
-    let f : a.y ≡ r.y = way_second c i a r w in omega arith
-
-pub two_right : (c : Context) (i j : ℕ) (a b r : Entry) → IsWayAt c i a r → IsWayAt c j b r
-    → ((k : ℕ) → (has a.carrier k && (has b.carrier k && true)) ≡ false)
-    → r.kind ≡ Full → r.carrier ≡ bit_or a.carrier b.carrier → IsRight c (Or2 i j) r
-two_right c i j a b r v w f k m =
-    let s = Derivation (Or2 i j) in
-    let numbers = i ∷ j ∷ [] in
-    let e = two_at c i j (scoped c.scope a) (scoped c.scope b) v.at w.at in (
-      ap (or_entry c) e
-          ∙ ap Some (same_entry r Full (min a.x a.y) (max a.x a.y) (bit_or a.carrier (bit_or b.carrier 0)) c.scope (sym k) (way_min c i a r v) (way_max c i a r v)
-          (ap (bit_or a.carrier) (or_zero_r b.carrier) ∙ sym m)),
-      two_reasons c i j ∙ or_clear (not (list_all (λ i. may_take s (entry_at c i)) numbers))
-          (not (list_all (λ a. a.scope == c.scope) (entries_at c numbers)))
-          (not (have_same_ends (entries_at c numbers))) (share_cell (entries_at c numbers))
-          (bad_two (may_take s (entry_at c i)) (may_take s (entry_at c j)) (way_taken c i a r s refl v) (way_taken c j b r s refl w))
-          (ap (λ v. not (list_all (λ a. a.scope == c.scope) v)) e ∙ two_scopes c.scope)
-          (ap (λ v. not (have_same_ends v)) e ∙ bad_one (a.x == b.x && a.y == b.y) (ways_alike c i j a b r v w))
-          (ap share_cell e ∙ none_shared (scoped c.scope a ∷ scoped c.scope b ∷ []) f),
-    )
-
-pub three_right : (c : Context) (i j l : ℕ) (a b d r : Entry) → IsWayAt c i a r → IsWayAt c j b r
-    → IsWayAt c l d r
-    → ((k : ℕ) → (has a.carrier k && (has b.carrier k && (has d.carrier k && true))) ≡ false)
-    → r.kind ≡ Full → r.carrier ≡ bit_or a.carrier (bit_or b.carrier d.carrier)
-    → IsRight c (Or3 i j l) r
-three_right c i j l a b d r v w u f k m =
-    let s = Derivation (Or3 i j l) in
-    let numbers = i ∷ j ∷ l ∷ [] in
-    let e = three_at c i j l (scoped c.scope a) (scoped c.scope b)
-    (scoped c.scope d) v.at w.at u.at in (
-      ap (or_entry c) e
-          ∙ ap Some (same_entry r Full (min a.x a.y) (max a.x a.y) (bit_or a.carrier (bit_or b.carrier (bit_or d.carrier 0))) c.scope (sym k) (way_min c i a r v) (way_max c i a r v)
-          (ap (λ v. bit_or a.carrier (bit_or b.carrier v)) (or_zero_r d.carrier) ∙ sym m)),
-      three_reasons c i j l ∙ or_clear (not (list_all (λ i. may_take s (entry_at c i)) numbers))
-          (not (list_all (λ a. a.scope == c.scope) (entries_at c numbers)))
-          (not (have_same_ends (entries_at c numbers))) (share_cell (entries_at c numbers))
-          (bad_three (may_take s (entry_at c i)) (may_take s (entry_at c j)) (may_take s (entry_at c l)) (way_taken c i a r s refl v) (way_taken c j b r s refl w) (way_taken c l d r s refl u))
-          (ap (λ v. not (list_all (λ a. a.scope == c.scope) v)) e ∙ bad_three (c.scope == c.scope) (c.scope == c.scope) (c.scope == c.scope) (eq-eqb c.scope c.scope refl) (eq-eqb c.scope c.scope refl) (eq-eqb c.scope c.scope refl))
-          (ap (λ v. not (have_same_ends v)) e ∙ bad_two (a.x == b.x && a.y == b.y) (a.x == d.x && a.y == d.y) (ways_alike c i j a b r v w) (ways_alike c i l a d r v u))
-          (ap share_cell e ∙ none_shared (scoped c.scope a ∷ scoped c.scope b ∷ scoped c.scope d ∷ []) f),
-    )

@@ -35,9 +35,9 @@ use Rattle.win_cert.specs.declared.statements.Statement.TheVariants.{Derivation}
 use Rattle.win_cert.specs.Statements.{have_same_ends, is_cell_in, is_chain, is_or, kind_taken}
 use Rattle.win_cert.specs.Statements.{may_take, share_cell}
 use Rattle.win_cert.specs.declared.lines.Line.TheVariants.{And, Key, Or2, Or3}
-use Rattle.win_cert.proofs.CutChains.{three_at, two_at}
-use Rattle.win_cert.proofs.CutSteps.{IsChainAt, IsWayAt, and_right, key_right, three_right}
-use Rattle.win_cert.proofs.CutSteps.{two_right}
+use Rattle.win_cert.proofs.CutChains.{two_at}
+use Rattle.win_cert.proofs.CutSteps.{IsChainAt, and_right, key_right, three_reasons, two_reasons}
+use Rattle.win_cert.proofs.ManyLines.{cell_small, none_in_all, taken_kind, ways_clear, ways_mean}
 use Rattle.win_cert.proofs.Middles.{IsEndOf, is_cell, is_group, middle_ends, misses_by, other_first}
 use Rattle.win_cert.proofs.Middles.{other_second, second_then}
 use Rattle.win_cert.proofs.NamedEntries.{none_applies}
@@ -50,34 +50,10 @@ two_there : (c : Context) (i j : ℕ) (a b : Entry)
     → (entry_at c i ≡ Some (scoped c.scope a)) × (entry_at c j ≡ Some (scoped c.scope b))
 two_there c i j a b h = (cc, cc)
 
-three_there : (c : Context) (i j k : ℕ) (a b d : Entry)
-    → map (entry_at c) (i ∷ j ∷ k ∷ []) ≡ map (λ (v : Entry). Some (scoped c.scope v))
-    (a ∷ b ∷ d ∷ [])
-    → (entry_at c i ≡ Some (scoped c.scope a)) × (entry_at c j ≡ Some (scoped c.scope b))
-    × (entry_at c k ≡ Some (scoped c.scope d))
-three_there c i j k a b d h = (cc, cc, cc)
-
-pub taken_kind : (s : Statement) (a : Entry) (scope : ℕ) (o : Option ScopedEntry)
-    → o ≡ Some (scoped scope a) → may_take s o ≡ true → a.kind ≡ kind_taken s
-taken_kind s a scope o e h =
-    kinds_are a.kind (kind_taken s)
-    (and_parts (same_kind a.kind (kind_taken s)) (not ((is_chain s || is_or s) && a.x == a.y)) (ap (may_take s) (sym e) ∙ h)).0
-
-one_taken : (p : Bool) → not (p && true) ≡ false → p ≡ true
-one_taken true h = refl
-one_taken false h = absurd (true≢false h)
-
 two_taken : (p q : Bool) → not (p && (q && true)) ≡ false → (p ≡ true) × (q ≡ true)
 two_taken true true h = (refl, refl)
 two_taken true false h = absurd (true≢false h)
 two_taken false q h = absurd (true≢false h)
-
-three_taken : (p q r : Bool) → not (p && (q && (r && true))) ≡ false → (p ≡ true) × (q ≡ true)
-    × (r ≡ true)
-three_taken true true true h = (refl, refl, refl)
-three_taken true true false h = absurd (true≢false h)
-three_taken true false r h = absurd (true≢false h)
-three_taken false q r h = absurd (true≢false h)
 
 -- ---- the middle of two entries
 
@@ -135,23 +111,6 @@ chain_of a b s u l m h =
       second = turned_pair b (other_end (scoped s b) u) u (pair_with b s u m t.1);
       ends = others_differ (scoped s a) (scoped s b) u l h;
     }
-
--- ---- carriers
-
--- of entries with cells of a board, no cell is in all carriers
-pub none_in_all : (entries : List ScopedEntry)
-    → ((k : ℕ) → list_all (λ (v : ScopedEntry). has v.carrier k) entries ≡ true → k < 121)
-    → share_cell entries ≡ false
-    → (k : ℕ) → list_all (λ (v : ScopedEntry). has v.carrier k) entries ≡ false
-none_in_all entries l f k
-    = false_from_ne_true (list_all (λ (v : ScopedEntry). has v.carrier k) entries)
-    (λ t. both_ways (share_cell entries) f
-    (any_in (λ j. list_all (λ (v : ScopedEntry). has v.carrier j) entries) 0 121 k (omega arith) (omega (arith, l k t)) t))
-
-pub cell_small : (c : Context) (a : Entry) → c.base.board.size ≤ 11 → IsValid (elements_at c) a
-    → (k : ℕ) → has a.carrier k ≡ true → k < 121
-cell_small c a m v k h
-    = empty_small (elements_at c) a.carrier (scope_small c.base c.scope m) v.empty k h
 
 -- ---- `and` and `key`
 
@@ -252,7 +211,7 @@ and_means c i j a b n h =
 pub and_clear : (c : Context) (i j : ℕ) (a b : Entry) → AreNamed c (i ∷ j ∷ []) (a ∷ b ∷ [])
     → JoinOverGroup (elements_at c) a b → IsClear c (And i j)
 and_clear c i j a b n (x, u, y, r, g) =
-    (and_right c i j a b (record { kind = Full; x = min x y; y = max x y; carrier = both_of a b; cause = Adjacent }) x u y (chain_at c i j a b x u y n r) g (refl, refl) refl refl).1
+    (and_right c i j a b x u y (chain_at c i j a b x u y n r) (record { kind = Full; x = min x y; y = max x y; carrier = both_of a b; cause = Adjacent }) g (refl, refl) refl refl).1
 
 pub key_means : (c : Context) (i j : ℕ) (a b : Entry) → AreNamed c (i ∷ j ∷ []) (a ∷ b ∷ [])
     → IsClear c (Key i j) → JoinOverCell (elements_at c) a b
@@ -272,83 +231,36 @@ key_means c i j a b n h =
 pub key_clear : (c : Context) (i j : ℕ) (a b : Entry) → AreNamed c (i ∷ j ∷ []) (a ∷ b ∷ [])
     → JoinOverCell (elements_at c) a b → IsClear c (Key i j)
 key_clear c i j a b n (x, u, y, k, r, g) =
-    (key_right c i j a b (record { kind = Semi; x = min x y; y = max x y; carrier = with_cell (both_of a b) k; cause = Adjacent }) x u y k (chain_at c i j a b x u y n r) g (refl, refl) refl refl).1
+    (key_right c i j a b x u y (chain_at c i j a b x u y n r) (record { kind = Semi; x = min x y; y = max x y; carrier = with_cell (both_of a b) k; cause = Adjacent }) k g (refl, refl) refl refl).1
 
 -- ---- `or`
-
-pub same_pair : (a b : Entry) → (a.x == b.x && a.y == b.y) ≡ true → (a.x ≡ b.x) × (a.y ≡ b.y)
-same_pair a b h = let t = and_parts (a.x == b.x) (a.y == b.y) h in
-    (eqb-true a.x b.x t.0, eqb-true a.y b.y t.1)
 
 pub two_means : (c : Context) (i j : ℕ) (a b : Entry) → AreNamed c (i ∷ j ∷ []) (a ∷ b ∷ [])
     → IsClear c (Or2 i j) → OrRule (a ∷ b ∷ []) a.x a.y
 two_means c i j a b n h =
-    let v = scoped c.scope a in
-    let w = scoped c.scope b in
-    let s = Derivation (Or2 i j) in
-    let f = none_applies c s h in
-    let t = two_there c i j a b n.at in
-    let pair : entries_at c (i ∷ j ∷ []) ≡ v ∷ w ∷ [] = two_at c i j v w t.0 t.1 in
-    let va = All-head (IsValid (elements_at c)) a (b ∷ []) n.valid in
-    let k = two_taken (may_take s (entry_at c i)) (may_take s (entry_at c j)) (f BadReference) in
-    let q = same_pair a b
-    (one_taken (a.x == b.x && a.y == b.y) (ap (λ z. not (have_same_ends z)) (sym pair) ∙ f EndsDiffer)) in
-    let free = none_in_all (v ∷ w ∷ [])
-    (λ k g. cell_small c a n.size va k (and_parts (has a.carrier k) (has b.carrier k && true) g).0) (ap share_cell (sym pair) ∙ f CommonCell) in
-    two_ways a b va.order
-    (taken_kind s a c.scope (entry_at c i) t.0 k.0, taken_kind s b c.scope (entry_at c j) t.1 k.1, q.0, q.1)
-    (λ k g l. both_not (has a.carrier k) (has b.carrier k) (free k) g l)
-
-way_at : (c : Context) (i : ℕ) (a : Entry) (x y carrier : ℕ)
-    → entry_at c i ≡ Some (scoped c.scope a) → a.kind ≡ Semi → x < y → IsBetween a x y
-    → IsWayAt c i a (record { kind = Full; x = x; y = y; carrier = carrier; cause = Adjacent })
-way_at c i a x y carrier t k l p = record { at = t; kind_is = k; order = l; pair = p }
+    let f = none_applies c (Derivation (Or2 i j)) h in
+    let w = ways_mean c (Derivation (Or2 i j)) (i ∷ j ∷ []) a (b ∷ []) refl n
+    (f BadReference) (f EndsDiffer) (f CommonCell) in
+    record { number = inl refl; kinds = w.kinds; pairs = w.pairs; free = w.free }
 
 pub two_clear : (c : Context) (i j : ℕ) (a b : Entry) → AreNamed c (i ∷ j ∷ []) (a ∷ b ∷ [])
     → OrRule (a ∷ b ∷ []) a.x a.y → IsClear c (Or2 i j)
-two_clear c i j a b n r =
-    let t = two_there c i j a b n.at in
-    let l = (All-head (IsValid (elements_at c)) a (b ∷ []) n.valid).order in
-    let m = bit_or a.carrier b.carrier in
-    (two_right c i j a b (record { kind = Full; x = a.x; y = a.y; carrier = m; cause = Adjacent })
-    (way_at c i a a.x a.y m t.0 (All-head (λ (z : Entry). z.kind ≡ Semi) a (b ∷ []) r.kinds) l (All-head (λ (z : Entry). IsBetween z a.x a.y) a (b ∷ []) r.pairs))
-    (way_at c j b a.x a.y m t.1 (second_of (λ (z : Entry). z.kind ≡ Semi) a b [] r.kinds) l (second_of (λ (z : Entry). IsBetween z a.x a.y) a b [] r.pairs))
-    r.free refl refl).1
+two_clear c i j a b n r = two_reasons c i j
+    ∙ ways_clear c (Derivation (Or2 i j)) (i ∷ j ∷ []) a (b ∷ []) a.x a.y refl
+    (All-head (IsValid (elements_at c)) a (b ∷ []) n.valid).order n.at r.kinds r.pairs r.free
 
 pub three_means : (c : Context) (i j k : ℕ) (a b d : Entry)
     → AreNamed c (i ∷ j ∷ k ∷ []) (a ∷ b ∷ d ∷ []) → IsClear c (Or3 i j k)
     → OrRule (a ∷ b ∷ d ∷ []) a.x a.y
 three_means c i j k a b d n h =
-    let v = scoped c.scope a in
-    let w = scoped c.scope b in
-    let u = scoped c.scope d in
-    let s = Derivation (Or3 i j k) in
-    let f = none_applies c s h in
-    let t = three_there c i j k a b d n.at in
-    let all : entries_at c (i ∷ j ∷ k ∷ []) ≡ v ∷ w ∷ u ∷ [] = three_at c i j k v w u t.0 t.1 t.2 in
-    let va = All-head (IsValid (elements_at c)) a (b ∷ d ∷ []) n.valid in
-    let p = three_taken (may_take s (entry_at c i)) (may_take s (entry_at c j))
-    (may_take s (entry_at c k)) (f BadReference) in
-    let q = two_taken (a.x == b.x && a.y == b.y) (a.x == d.x && a.y == d.y)
-    (ap (λ z. not (have_same_ends z)) (sym all) ∙ f EndsDiffer) in
-    let one = same_pair a b q.0 in
-    let two = same_pair a d q.1 in
-    let free = none_in_all (v ∷ w ∷ u ∷ [])
-    (λ z g. cell_small c a n.size va z (and_parts (has a.carrier z) (has b.carrier z && (has d.carrier z && true)) g).0) (ap share_cell (sym all) ∙ f CommonCell) in
-    let ka = taken_kind s a c.scope (entry_at c i) t.0 p.0 in
-    three_ways a b d va.order (ka, taken_kind s b c.scope (entry_at c j) t.1 p.1, one.0, one.1)
-    (ka, taken_kind s d c.scope (entry_at c k) t.2 p.2, two.0, two.1)
-    (λ z g l m. all_not (has a.carrier z) (has b.carrier z) (has d.carrier z) (free z) g l m)
+    let f = none_applies c (Derivation (Or3 i j k)) h in
+    let w = ways_mean c (Derivation (Or3 i j k)) (i ∷ j ∷ k ∷ []) a (b ∷ d ∷ []) refl n
+    (f BadReference) (f EndsDiffer) (f CommonCell) in
+    record { number = inr refl; kinds = w.kinds; pairs = w.pairs; free = w.free }
 
 pub three_clear : (c : Context) (i j k : ℕ) (a b d : Entry)
     → AreNamed c (i ∷ j ∷ k ∷ []) (a ∷ b ∷ d ∷ []) → OrRule (a ∷ b ∷ d ∷ []) a.x a.y
     → IsClear c (Or3 i j k)
-three_clear c i j k a b d n r =
-    let t = three_there c i j k a b d n.at in
-    let l = (All-head (IsValid (elements_at c)) a (b ∷ d ∷ []) n.valid).order in
-    let m = bit_or a.carrier (bit_or b.carrier d.carrier) in
-    (three_right c i j k a b d (record { kind = Full; x = a.x; y = a.y; carrier = m; cause = Adjacent })
-    (way_at c i a a.x a.y m t.0 (All-head (λ (z : Entry). z.kind ≡ Semi) a (b ∷ d ∷ []) r.kinds) l (All-head (λ (z : Entry). IsBetween z a.x a.y) a (b ∷ d ∷ []) r.pairs))
-    (way_at c j b a.x a.y m t.1 (second_of (λ (z : Entry). z.kind ≡ Semi) a b (d ∷ []) r.kinds) l (second_of (λ (z : Entry). IsBetween z a.x a.y) a b (d ∷ []) r.pairs))
-    (way_at c k d a.x a.y m t.2 (third_of (λ (z : Entry). z.kind ≡ Semi) a b d [] r.kinds) l (third_of (λ (z : Entry). IsBetween z a.x a.y) a b d [] r.pairs))
-    r.free refl refl).1
+three_clear c i j k a b d n r = three_reasons c i j k
+    ∙ ways_clear c (Derivation (Or3 i j k)) (i ∷ j ∷ k ∷ []) a (b ∷ d ∷ []) a.x a.y refl
+    (All-head (IsValid (elements_at c)) a (b ∷ d ∷ []) n.valid).order n.at r.kinds r.pairs r.free
