@@ -1,8 +1,9 @@
 -- Lines that stand after others: what is read over, and the entries that stay.
-use Rattle.std.proofs.Common.{◌≡◌, ℕ, ◌+◌, List, [], ◌∷◌, ◌++◌, true, Option, Some, None, length}
+use Rattle.std.proofs.Common.{◌≡◌, ℕ, ◌+◌, ◌<◌, List, [], ◌∷◌, ◌++◌, true, Option, Some, None, length}
 use Rattle.std.proofs.Common.{refl, sym, ◌∙◌, ap, subst, arith}
 use Rattle.std.specs.List.{slice_get}
 use Rattle.std.specs.Option.{option_flatten}
+use Rattle.std.proofs.lemmas.Option.{slice_get_within}
 use Rattle.hex_board.specs.Positions.{Position}
 use Rattle.conn_store.specs.declared.entries.Kind.{Kind}
 use Rattle.win_cert.specs.Entries.{Context, ScopedEntry, entry_at, gives}
@@ -45,6 +46,11 @@ flat_out : {A : Type 0} (o : Option (Option A)) (a : A) → option_flatten o ≡
 flat_out None a h = absurd (cc)
 flat_out (Some None) a h = absurd (cc)
 flat_out (Some (Some b)) a h = ap Some h
+
+-- an entry is that of a line before
+pub entry_below : (c : Context) (i : ℕ) (a : ScopedEntry) → entry_at c i ≡ Some a
+    → i < length c.earlier
+entry_below c i a h = slice_get_within c.earlier i (Some a) (flat_out (slice_get c.earlier i) a h)
 
 pub entry_kept : (c : Context) (line : Line) (i : ℕ) (a : ScopedEntry) → entry_at c i ≡ Some a
     → entry_at (context_after c line) i ≡ Some a

@@ -1,11 +1,12 @@
 -- The certificate of the lines of a cut shows the entry of the store, and has a line for each entry
 -- on which it rests.
-use Rattle.std.proofs.Common.{◌≡◌, ℕ, ◌<◌, ◌≤◌, All, ◌==◌, ◌&&◌, true, false, Bool, List, Some, get_or}
-use Rattle.std.proofs.Common.{length, map, sym, ◌∙◌, ap, subst, refl, inl, arith}
+use Rattle.std.proofs.Common.{◌≡◌, ℕ, ◌+◌, ◌<◌, ◌≤◌, All, ◌==◌, ◌&&◌, true, false, Bool, List, [], ◌∷◌, Some}
+use Rattle.std.proofs.Common.{get_or, length, map, sym, ◌∙◌, ap, subst, refl, inl, arith}
 use Rattle.std.specs.List.{slice_get}
 use Rattle.std.proofs.Math.Seq.{take-length}
 use Rattle.std.proofs.lemmas.Bool.{and_from, eq-eqb}
 use Rattle.std.proofs.lemmas.List.{get_or_read}
+use Rattle.std.proofs.lemmas.List.Elements.{All-head}
 use Rattle.std.proofs.lemmas.Option.{slice_get_within}
 use Rattle.hex_board.specs.Elements.{PlayerBoard, edge_element}
 use Rattle.hex_board.specs.Positions.{Position}
@@ -27,7 +28,7 @@ use Rattle.win_cert.specs.declared.certs.Cert.{Cert}
 use Rattle.win_cert.specs.declared.lines.Line.{Line}
 use Rattle.win_cert.specs.declared.certs.TheConstants.{FIRST_VERSION}
 use Rattle.win_cert.proofs.Accepting.{accepted, first_of, read_all}
-use Rattle.win_cert.proofs.Appending.{base_after}
+use Rattle.win_cert.proofs.Appending.{base_after, entry_below, length_after}
 use Rattle.win_cert.proofs.CutEnds.{between_edges}
 use Rattle.win_cert.proofs.CutSteps.{unscoped_board}
 use Rattle.win_cert.proofs.Supports.{marked_rest}
@@ -37,7 +38,7 @@ use Rattle.win_cert.proofs.Supports.{marked_rest}
 pub record IsCutOf (d : StoreData) (n : ℕ) (marks : List Bool) (cert : Cert) : Type 0 where
   pub board : cert.board ≡ d.elements.board
   pub player : cert.player ≡ d.elements.player
-  pub known : AreMarks d.entries n marks
+  pub known : AreMarks d.entries (n ∷ []) marks
   pub renamed : List ℕ
   pub lines : AreLinesFor d marks (length d.entries) cert.lines renamed
   pub entry : cert.entry ≡ get_or renamed n 0
@@ -47,7 +48,7 @@ pub record IsCutOf (d : StoreData) (n : ℕ) (marks : List Bool) (cert : Cert) :
 pub cut_of : {lines : List Line} {entries : List Entry} {m : List Bool} (d r : StoreData) (n : ℕ)
     (marks : List Bool) (renamed : List ℕ) (cert : Cert) → d ≡ r → HasEdgeEntryAt r n
     → cert.board ≡ d.elements.board → cert.player ≡ d.elements.player → cert.lines ≡ lines
-    → entries ≡ d.entries → length entries ≤ MOST_ENTRIES → AreMarks entries n m → marks ≡ m
+    → entries ≡ d.entries → length entries ≤ MOST_ENTRIES → AreMarks entries (n ∷ []) m → marks ≡ m
     → AreLinesFor d marks (length d.entries) lines renamed → cert.entry ≡ get_or renamed n cert.entry
     → IsCutOf r n marks cert
 cut_of {m = m} d r n marks renamed cert h at b p l es few known same w e =
@@ -58,7 +59,7 @@ cut_of {m = m} d r n marks renamed cert h at b p l es few known same w e =
     (record {
       board = b;
       player = p;
-      known = subst (AreMarks d.entries n) (sym same) (subst (λ v. AreMarks v n m) es known);
+      known = subst (AreMarks d.entries (n ∷ [])) (sym same) (subst (λ v. AreMarks v (n ∷ []) m) es known);
       renamed = renamed;
       lines = subst (λ v. AreLinesFor d marks (length d.entries) v renamed) (sym l) w;
       entry = get_or_read renamed n cert.entry (omega arith) e 0;
@@ -97,7 +98,7 @@ claimed : (d : StoreData) (n : ℕ) (marks : List Bool) (a : Entry) (cert : Cert
 claimed d n marks a cert w at =
     ap (λ c. entry_at (after_lines c cert.lines) cert.entry) (first_same d n marks cert w)
     ∙ ap (entry_at (after_lines (report_context d) cert.lines)) w.entry
-    ∙ w.lines.places n a (slice_get_within d.entries n a at) w.known.asked at
+    ∙ w.lines.places n a (slice_get_within d.entries n a at) (All-head (λ i. is_marked marks i ≡ true) n [] w.known.asked) at
 
 pub certified : (d : StoreData) (n : ℕ) (marks : List Bool) (a : Entry) (cert : Cert)
     → IsCutOf d n marks cert → IsEdgeEntryAt d n a → cert.version ≡ FIRST_VERSION
@@ -105,9 +106,10 @@ pub certified : (d : StoreData) (n : ℕ) (marks : List Bool) (a : Entry) (cert 
 certified d n marks a cert w h v k =
     let most : length d.entries ≤ 75030 = w.few in
     let number : length cert.lines ≤ length d.entries = w.lines.few in
-    let small : get_or w.renamed n 0 ≤ length cert.lines
-    = w.lines.small n (slice_get_within d.entries n a h.0) in
-    let named : cert.entry ≡ get_or w.renamed n 0 = w.entry in
+    let c = after_lines (first_of cert) cert.lines in
+    let long : length c.earlier ≡ 0 + length cert.lines = length_after (first_of cert) cert.lines in
+    let below : cert.entry < length c.earlier
+    = entry_below c cert.entry (scoped 0 a) (claimed d n marks a cert w h.0) in
     let edges : is_edge_entry (after_lines (first_of cert) cert.lines).base (scoped 0 a) ≡ true
     = ap (λ b. is_edge_entry b (scoped 0 a)) (base_after (first_of cert) cert.lines)
     ∙ ap (λ e. a.x == edge_element e false && a.y == edge_element e true)

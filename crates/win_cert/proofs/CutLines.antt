@@ -1,21 +1,19 @@
 -- The line for an entry that follows from earlier ones is right, in any scope, and is one of the
 -- first version.
 use Rattle.std.proofs.Common.{◌≡◌, ℕ, ◌<◌, ◌≤◌, ◌==◌, true, false, Bool, List, [], ◌∷◌, Some, All}
-use Rattle.std.proofs.Common.{length, map, take, get_or, refl, sym, ◌∙◌, ap, subst, inl, inr, ◌⊎◌, zero}
+use Rattle.std.proofs.Common.{length, map, take, get_or, refl, sym, ◌∙◌, ap, subst, zero}
 use Rattle.std.proofs.Common.{suc, if◌then◌else◌, arith}
 use Rattle.std.specs.List.{slice_get}
 use Rattle.std.proofs.Math.Seq.{take-nil}
 use Rattle.std.proofs.lemmas.Bool.{ne_eqb, true≢false}
 use Rattle.std.proofs.lemmas.List.{length-map}
 use Rattle.std.proofs.lemmas.List.Elements.{All-cons, All-head, All-nil, All-tail}
-use Rattle.hex_cells.specs.Sets.{has}
 use Rattle.hex_board.specs.Elements.{PlayerBoard}
 use Rattle.conn_store.specs.Rules.{AndRule, AreAt, FollowsBy, FollowsFrom, OrRule, union_of}
-use Rattle.conn_store.specs.Entries.{IsBetween}
 use Rattle.conn_store.specs.declared.entries.Cause.{Cause}
 use Rattle.conn_store.specs.declared.entries.Cause.TheVariants.{Adjacent, AndGroup, AndEmpty, Or}
 use Rattle.conn_store.specs.declared.entries.Entry.{Entry}
-use Rattle.conn_store.specs.declared.entries.Kind.TheVariants.{Full, Semi}
+use Rattle.conn_store.specs.declared.entries.Kind.TheVariants.{Full}
 use Rattle.win_cert.specs.Cuts.{premises, scoped}
 use Rattle.win_cert.specs.Cutting.{IsLineFor}
 use Rattle.win_cert.specs.Entries.{Context, elements_at, entry_at}
@@ -152,12 +150,12 @@ two_numbers i j h k
 abbrev pub IsSmallAt : List ℕ → ℕ → Type 0
 IsSmallAt renamed i = get_or renamed i 0 ≤ MOST_NUMBER
 
-or_form : (e : PlayerBoard) (renamed : List ℕ) (n : ℕ) (line : Line) (p q r : ℕ) (two : Bool)
+or_form : (n : ℕ) (line : Line) (p q r : ℕ) (two : Bool)
     → line ≡ (if two then Or2 p q else Or3 p q r) → p ≤ MOST_NUMBER → q ≤ MOST_NUMBER
     → (two ≡ false → r ≤ MOST_NUMBER) → IsLineOf FIRST_VERSION n line
-or_form e renamed n line p q r true h i j k
+or_form n line p q r true h i j k
     = subst (IsLineOf FIRST_VERSION n) (sym h) (two_numbers p q i j)
-or_form e renamed n line p q r false h i j k
+or_form n line p q r false h i j k
     = subst (IsLineOf FIRST_VERSION n) (sym h)
     (All-cons (λ v. v ≤ MOST_NUMBER) p (q ∷ r ∷ []) i (two_numbers q r j (k refl)))
 
@@ -181,7 +179,7 @@ line_form e renamed a line (Or numbers count) h s =
     let j = get_or numbers 1 0 in
     let k = get_or numbers 2 0 in
     let rest = if count == 2 then [] else k ∷ [] in
-    or_form e renamed e.board.size line (get_or renamed i 0) (get_or renamed j 0)
+    or_form e.board.size line (get_or renamed i 0) (get_or renamed j 0)
     (get_or renamed k 0) (count == 2) h.1
     (All-head (IsSmallAt renamed) i (j ∷ rest) s) (second_in (IsSmallAt renamed) i j rest s)
     (third_small renamed i j k (count == 2) s)

@@ -1,4 +1,4 @@
--- Marks of the entries on which an entry rests.
+-- Marks of the entries on which entries rest.
 use Rattle.std.proofs.Common.{◌≡◌, ℕ, ◌+◌, ◌<◌, ◌≤◌, true, false, Bool, List, [], ◌∷◌, ◌++◌, Some}
 use Rattle.std.proofs.Common.{All, length, get_or, replicate, set, take, refl, sym, ◌∙◌, ap, subst}
 use Rattle.std.proofs.Common.{inl, inr, zero, suc, arith}
@@ -20,7 +20,7 @@ kept_one m i j l h = elim (cases_eq i j) [
   | inr n ↦ get_or-set_other m j i true false n ∙ h
 ]
 
-pub inside_one : (m : List Bool) (j : ℕ) (s : ℕ → Bool) → AreInside m s → s j ≡ true
+inside_one : (m : List Bool) (j : ℕ) (s : ℕ → Bool) → AreInside m s → s j ≡ true
     → AreInside (set m j true) s
 inside_one m j s f h i t = elim (cases_eq i j) [
   | inl q ↦ subst (λ v. s v ≡ true) (sym q) h

@@ -5,7 +5,7 @@ use Rattle.std.proofs.Common.{if◌then◌else◌, refl, sym, ◌∙◌, ap, ari
 use Rattle.std.specs.List.{list_all}
 use Rattle.std.specs.Int.Bits.{or_zero_r}
 use Rattle.std.specs.Option.{is_none, is_some, option_map_or}
-use Rattle.std.proofs.lemmas.Bool.{and_from, eq-eqb, false≢true, ne_eqb, true≢false, or_from}
+use Rattle.std.proofs.lemmas.Bool.{eq-eqb, false≢true, ne_eqb, true≢false, or_from}
 use Rattle.std.proofs.lemmas.Bool.{and_right as and_no}
 use Rattle.hex_cells.specs.Sets.{has, with_cell}
 use Rattle.hex_cells.specs.declared.colours.Colour.{Colour}
@@ -22,7 +22,7 @@ use Rattle.conn_store.specs.declared.entries.Kind.TheVariants.{Full, Semi}
 use Rattle.win_cert.specs.Cuts.{scoped}
 use Rattle.win_cert.specs.Entries.{Context, ScopedEntry, adj_entry, and_entry, carriers_of}
 use Rattle.win_cert.specs.Entries.{elements_at, end_element, entries_at, entry_at, entry_between}
-use Rattle.win_cert.specs.Entries.{gives, key_entry, middle_of, or_entry, other_end}
+use Rattle.win_cert.specs.Entries.{gives, key_entry, middle_of, other_end}
 use Rattle.win_cert.specs.Reasons.{reason_against, is_bad_reference, is_wrong_scope}
 use Rattle.win_cert.specs.Reasons.{is_wrong_colour, are_not_neighbours, has_no_middle}
 use Rattle.win_cert.specs.Reasons.{do_carriers_meet, is_end_in_carrier, is_middle_wrong}

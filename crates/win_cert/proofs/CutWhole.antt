@@ -28,9 +28,9 @@ use Rattle.win_cert.specs.Writable.{IsLineOf}
 use Rattle.win_cert.specs.declared.certs.TheConstants.{FIRST_VERSION}
 use Rattle.win_cert.specs.declared.lines.Line.{Line}
 use Rattle.win_cert.specs.declared.lines.Line.TheVariants.{Or2, Or3}
-use Rattle.win_cert.proofs.Appending.{after_append, base_after, clear_append, entry_kept, entry_last}
-use Rattle.win_cert.proofs.Appending.{length_after}
-use Rattle.win_cert.proofs.CutDerivations.{longer, name_earlier, some_entry}
+use Rattle.win_cert.proofs.Appending.{after_append, base_after, clear_append, entry_below}
+use Rattle.win_cert.proofs.Appending.{entry_kept, entry_last, length_after}
+use Rattle.win_cert.proofs.CutDerivations.{longer, name_earlier, some_at, some_entry}
 use Rattle.win_cert.proofs.CutLines.{AreOrdered, IsPlaced, IsSmallAt, line_form, line_right}
 use Rattle.win_cert.proofs.CutSteps.{IsRight, unscoped_board}
 use Rattle.win_cert.proofs.Supports.{picked_more, picked_same}
@@ -88,36 +88,27 @@ next_right d marks n lines renamed a line w s closed at known form =
 -- the numbers of the lines can be written
 next_form : (d : StoreData) (marks : List Bool) (n : ℕ) (lines : List Line) (renamed : List ℕ)
     (a : Entry) (line : Line) → AreLinesFor d marks n lines renamed → IsSound d
-    → length d.entries ≤ MOST_ENTRIES → slice_get d.entries n ≡ Some a
+    → length d.entries ≤ MOST_ENTRIES → IsClosedFrom d.entries marks 0
+    → slice_get d.entries n ≡ Some a → is_marked marks n ≡ true
     → IsLineFor d.elements (renamed ++ length lines ∷ []) a a.cause line
     → IsLineOf FIRST_VERSION d.elements.board.size line
-next_form d marks n lines renamed a line w s most at form =
+next_form d marks n lines renamed a line w s most closed at known form =
+    let cx = after_lines (report_context d) lines in
     let k : length renamed ≡ n = w.number in
     let f : length lines ≤ n = w.few in
     let more = renamed ++ length lines ∷ [] in
     let inside : n < length d.entries = slice_get_within d.entries n a at in
     let largest : length d.entries ≤ 75030 = most in
+    let long : length cx.earlier ≡ 0 + length lines = length_after (report_context d) lines in
     let small : All (IsSmallAt more) (premises a.cause) = λ i z l.
     let j : ℕ = get_or (premises a.cause) i z in
     let lj : j < n = name_earlier d s n a at i z l in
-    let b : get_or renamed j 0 ≤ length lines = w.small j lj in
+    let b = some_at d.entries j (omega (arith, lj)) in
+    let below : get_or renamed j 0 < length cx.earlier = entry_below cx (get_or renamed j 0)
+    (scoped 0 b.0) (w.places j b.0 lj (closed n a (omega arith) known at i z l) b.1) in
     subst (λ v. v ≤ 999999)
-    (sym (get_or-append renamed (length lines ∷ []) 0 j (omega (arith, lj)))) (omega (arith, b)) in
+    (sym (get_or-append renamed (length lines ∷ []) 0 j (omega (arith, lj)))) (omega (arith, below)) in
     line_form d.elements more a line a.cause form small
-
--- a number more, of the next line
-next_small : (renamed : List ℕ) (n v m i : ℕ) → length renamed ≡ n → v ≤ m
-    → ((j : ℕ) → j < n → get_or renamed j 0 ≤ v) → i < n + 1 → get_or (renamed ++ v ∷ []) i 0 ≤ m
-next_small renamed n v m i k l w h = elim (cases_order i n) [
-  | inl p ↦
-      let e : get_or (renamed ++ v ∷ []) i 0 ≡ v
-      = ap (λ z. get_or (renamed ++ v ∷ []) z 0) (p ∙ sym k) ∙ get_or-append_seam renamed v [] 0 in
-      omega (arith, e)
-  | inr (inl p) ↦ let b : get_or renamed i 0 ≤ v = w i p in
-      subst (λ z. z ≤ m) (sym (get_or-append renamed (v ∷ []) 0 i (omega (arith, p))))
-      (omega (arith, b))
-  | inr (inr p) ↦ absurd (omega arith)
-]
 
 pub one_more : (d : StoreData) (marks : List Bool) (n : ℕ) (lines : List Line) (renamed : List ℕ)
     (a : Entry) (line : Line) → AreLinesFor d marks n lines renamed → IsSound d
@@ -141,9 +132,8 @@ one_more d marks n lines renamed a line w s most closed at known form =
     record {
       number = longer renamed (length lines) ∙ ap (λ z. z + 1) k;
       few = omega arith;
-      small = λ i h. next_small renamed n (length lines) (length (lines ++ line ∷ [])) i k (omega (arith, l)) w.small h;
       form = All-push (IsLineOf FIRST_VERSION d.elements.board.size) lines line w.form
-          (next_form d marks n lines renamed a line w s most at form);
+          (next_form d marks n lines renamed a line w s most closed at known form);
       clear = clear_append (report_context d) lines (line ∷ []) w.clear (right.1, tt);
       scope = ap (λ (x : Context). x.scope) next
           ∙ scope_stays d.elements more a a.cause line cx.scope form ∙ w.scope;
@@ -175,7 +165,6 @@ none_more d marks n lines renamed w h =
     record {
       number = longer renamed (length lines) ∙ ap (λ z. z + 1) k;
       few = omega arith;
-      small = λ i l. next_small renamed n (length lines) (length lines) i k (omega arith) w.small l;
       form = w.form;
       clear = w.clear;
       scope = w.scope;

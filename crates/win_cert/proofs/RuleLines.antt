@@ -1,26 +1,22 @@
 -- A line of a rule has no reason against it exactly where the rule applies to the entries that it
 -- names.
-use Rattle.std.proofs.Common.{◌≡◌, ℕ, ◌<◌, ◌≤◌, ◌==◌, ◌&&◌, ◌||◌, ◌⊎◌, not, min, max, true, false}
-use Rattle.std.proofs.Common.{Bool, List, [], ◌∷◌, Option, Some, None, map, bit_or, if◌then◌else◌}
+use Rattle.std.proofs.Common.{◌≡◌, ℕ, ◌<◌, ◌==◌, ◌&&◌, ◌||◌, ◌⊎◌, not, min, max, true, false}
+use Rattle.std.proofs.Common.{Bool, [], ◌∷◌, Option, Some, None, map, if◌then◌else◌}
 use Rattle.std.proofs.Common.{refl, sym, ◌∙◌, ap, inl, inr, arith}
-use Rattle.std.specs.List.{list_all}
 use Rattle.std.specs.Option.{is_none, is_some, option_map_or}
-use Rattle.std.proofs.lemmas.Bool.{and_parts, both_ways, cases_eq, eq-eqb, eqb-true}
-use Rattle.std.proofs.lemmas.Bool.{false_from_ne_true, or_left, or_parts, or_right, true≢false}
+use Rattle.std.proofs.lemmas.Bool.{and_parts, both_ways, cases_eq, eq-eqb}
+use Rattle.std.proofs.lemmas.Bool.{or_left, or_parts, or_right, true≢false}
 use Rattle.std.proofs.lemmas.List.Elements.{All-head}
 use Rattle.hex_cells.specs.Sets.{has, with_cell}
 use Rattle.hex_board.specs.Elements.{PlayerBoard}
 use Rattle.hex_board.specs.Places.{cell_of}
-use Rattle.hex_board.proofs.Search.{any_in}
 use Rattle.conn_store.specs.Entries.{IsBetween, IsValid}
 use Rattle.conn_store.specs.Rules.{AndRule, IsChain, OrRule, both_of}
 use Rattle.conn_store.specs.declared.entries.Cause.TheVariants.{Adjacent}
 use Rattle.conn_store.specs.declared.entries.Entry.{Entry}
 use Rattle.conn_store.specs.declared.entries.Kind.TheVariants.{Full, Semi}
-use Rattle.conn_store.proofs.RuleEntries.{all_not, both_not, three_ways, two_ways}
-use Rattle.conn_store.proofs.RuleTruth.{second_of, third_of}
-use Rattle.conn_store.proofs.Tables.{kinds_are}
-use Rattle.conn_store.specs.Stores.{same_kind}
+use Rattle.conn_store.proofs.RuleEntries.{both_not}
+use Rattle.conn_store.proofs.RuleTruth.{second_of}
 use Rattle.hsearch.proofs.Orders.{turned_pair}
 use Rattle.win_cert.specs.Cuts.{scoped}
 use Rattle.win_cert.specs.Entries.{Context, ScopedEntry, elements_at, entries_at, entry_at, is_end}
@@ -30,9 +26,8 @@ use Rattle.win_cert.specs.declared.reasons.Reason.TheVariants.{BadReference, Car
 use Rattle.win_cert.specs.declared.reasons.Reason.TheVariants.{CommonCell, EndInCarrier, EndsDiffer}
 use Rattle.win_cert.specs.declared.reasons.Reason.TheVariants.{MiddleKind, NoCommonMiddle}
 use Rattle.win_cert.specs.RuleLines.{AreNamed, IsClear, JoinOverCell, JoinOverGroup}
-use Rattle.win_cert.specs.declared.statements.Statement.{Statement}
 use Rattle.win_cert.specs.declared.statements.Statement.TheVariants.{Derivation}
-use Rattle.win_cert.specs.Statements.{have_same_ends, is_cell_in, is_chain, is_or, kind_taken}
+use Rattle.win_cert.specs.Statements.{is_cell_in}
 use Rattle.win_cert.specs.Statements.{may_take, share_cell}
 use Rattle.win_cert.specs.declared.lines.Line.TheVariants.{And, Key, Or2, Or3}
 use Rattle.win_cert.proofs.CutChains.{two_at}
@@ -41,7 +36,6 @@ use Rattle.win_cert.proofs.ManyLines.{cell_small, none_in_all, taken_kind, ways_
 use Rattle.win_cert.proofs.Middles.{IsEndOf, is_cell, is_group, middle_ends, misses_by, other_first}
 use Rattle.win_cert.proofs.Middles.{other_second, second_then}
 use Rattle.win_cert.proofs.NamedEntries.{none_applies}
-use Rattle.win_cert.proofs.ScopeBoards.{empty_small, scope_small}
 
 -- ---- the entries that are named
 

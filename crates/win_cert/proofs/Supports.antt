@@ -2,6 +2,7 @@
 use Rattle.std.proofs.Common.{◌≡◌, ℕ, ◌+◌, true, false, Bool, List, [], ◌∷◌, ◌++◌, Some, take, refl}
 use Rattle.std.proofs.Common.{◌∙◌, ap, subst, zero, suc, if◌then◌else◌, arith}
 use Rattle.std.specs.List.{slice_get}
+use Rattle.std.proofs.lemmas.List.Elements.{All-cons, All-head, All-nil}
 use Rattle.conn_store.specs.Stores.{StoreData}
 use Rattle.conn_store.specs.declared.entries.Entry.{Entry}
 use Rattle.win_cert.specs.Cuts.{RestOn, entries_numbered}
@@ -62,13 +63,17 @@ picked_same set entries n k =
 -- ---- the marked entries
 
 -- the entries on which entry n rests are the marked ones
-pub marked_rest : (d : StoreData) (n : ℕ) (marks : List Bool) → AreMarks d.entries n marks
+pub marked_rest : (d : StoreData) (n : ℕ) (marks : List Bool) → AreMarks d.entries (n ∷ []) marks
     → RestOn d.entries n (entries_numbered (is_marked marks) d.entries)
 marked_rest d n marks m = (
   is_marked marks,
   record {
-    closed = record { asked = m.asked; closed = λ i a h q. m.closed i a (omega arith) h q };
-    least = m.least;
+    closed = record {
+      asked = All-head (λ i. is_marked marks i ≡ true) n [] m.asked;
+      closed = λ i a h q. m.closed i a (omega arith) h q;
+    };
+    least = λ set h. m.least set
+        (All-cons (λ i. set i ≡ true) n [] h.asked (All-nil (λ i. set i ≡ true))) h.closed;
   },
   refl,
 )

@@ -10,7 +10,7 @@ use Rattle.conn_store.specs.declared.entries.Cause.TheVariants.{Adjacent, AndGro
 use Rattle.conn_store.specs.Stores.{StoreData}
 use Rattle.conn_store.specs.declared.entries.Entry.{Entry}
 use Rattle.win_cert.specs.Contexts.{AreClear, after_lines, first_context}
-use Rattle.win_cert.specs.Cuts.{IsClosedSet, entries_numbered, premises, scoped}
+use Rattle.win_cert.specs.Cuts.{entries_numbered, premises, scoped}
 use Rattle.win_cert.specs.Entries.{Context, ScopedEntry, end_element, entry_at}
 use Rattle.win_cert.specs.Statements.{is_other_stone}
 use Rattle.win_cert.specs.Writable.{IsEndOn, IsLineOf}
@@ -51,21 +51,13 @@ pub record IsClosureOf (entries : List Entry) (old new : List Bool) : Type 0 whe
   pub closed : IsClosedFrom entries new 0
   pub least : (set : ℕ → Bool) → HasPremises entries set → AreInside old set → AreInside new set
 
--- with each marked entry its premises are marked
-pub record AreAllMarked (entries : List Entry) (marks : List Bool) : Type 0 where
+-- the entries with these numbers are marked, and with each marked entry its premises, and no more
+pub record AreMarks (entries : List Entry) (numbers : List ℕ) (marks : List Bool) : Type 0 where
   pub number : length marks ≡ length entries
+  pub asked : All (λ i. is_marked marks i ≡ true) numbers
   pub closed : IsClosedFrom entries marks 0
-
--- the marked entries are in each set that has entry n, and with each entry its premises
-abbrev pub AreLeast : List Entry → ℕ → List Bool → Type 0
-AreLeast entries n marks = (set : ℕ → Bool) → IsClosedSet entries n set → AreInside marks set
-
--- entry n is marked, and with each marked entry its premises, and no more
-pub record AreMarks (entries : List Entry) (n : ℕ) (marks : List Bool) : Type 0 where
-  pub number : length marks ≡ length entries
-  pub asked : is_marked marks n ≡ true
-  pub closed : IsClosedFrom entries marks 0
-  pub least : AreLeast entries n marks
+  pub least : (set : ℕ → Bool) → All (λ i. set i ≡ true) numbers → HasPremises entries set
+      → AreInside marks set
 
 -- marks, and the entries of these numbers that are marked after them
 pub record IsMarkedBy (old : List Bool) (numbers : List ℕ) (new : List Bool) : Type 0 where
@@ -114,7 +106,6 @@ pub record AreLinesFor (d : StoreData) (marks : List Bool) (n : ℕ) (lines : Li
     (renamed : List ℕ) : Type 0 where
   pub number : length renamed ≡ n
   pub few : length lines ≤ n
-  pub small : (i : ℕ) → i < n → get_or renamed i 0 ≤ length lines
   pub form : All (IsLineOf FIRST_VERSION d.elements.board.size) lines
   pub clear : AreClear (report_context d) lines
   pub scope : (after_lines (report_context d) lines).scope ≡ 0

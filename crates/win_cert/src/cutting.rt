@@ -27,7 +27,7 @@ pub fn cut(alloc: Global, report: &Report, entry: u32) -> Result<Cert, Memory>
     ensures lines { IfOk result (HasLinesFor report.now entry) }
 {
     let store = report.store();
-    let marks = marked(alloc, store.entries(), entry)?;
+    let marks = marked(alloc, store.entries(), &[entry])?;
     let (lines, numbers) = lines_for(alloc, store, &marks)?;
     Ok(Cert {
         version: FIRST_VERSION,

@@ -4,7 +4,7 @@ ghost use Rattle.std.specs.Prelude.{◌<◌, All, IfOk, length};
 ghost use Rattle.win_cert.specs.Cuts.{IsDraftOf};
 
 use super::cutting::lines_for;
-use super::marking::marked_all;
+use super::marking::marked;
 use super::{Cert, Line, Lines, Memory, Numbers, version_for};
 use conn_store::Kind;
 use hsearch::Report;
@@ -21,7 +21,7 @@ pub fn draft_or(alloc: Global, report: &Report, numbers: &[u32]) -> Result<Cert,
     ensures { IfOk result (IsDraftOf report.now) }
 {
     let store = report.store();
-    let marks = marked_all(alloc, store.entries(), numbers)?;
+    let marks = marked(alloc, store.entries(), numbers)?;
     let (mut lines, renamed) = lines_for(alloc, store, &marks)?;
     let entry = lines.len() as u32;
     let Ok(()) = lines.push(or_line(named(alloc, &renamed, numbers)?)) else {

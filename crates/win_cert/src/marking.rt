@@ -1,34 +1,21 @@
-//! Marks of the entries on which an entry rests.
+//! Marks of the entries on which entries rest.
 
 ghost use Rattle.std.specs.Prelude.{◌≡◌, ◌<◌, All, IfOk, length};
 ghost use Rattle.win_cert.specs.Cuts.{premises};
-ghost use Rattle.win_cert.specs.Cutting.{AreAllMarked, AreMarks, IsClosureOf, IsMarkedBy};
-ghost use Rattle.win_cert.specs.Cutting.{NameEarlier};
+ghost use Rattle.win_cert.specs.Cutting.{AreMarks, IsClosureOf, IsMarkedBy, NameEarlier};
 
 use conn_store::{Cause, Entry};
 use std::alloc::{AllocError, Global};
 
-/// Marks the entry and those on which it rests, and no other.
-pub(crate) fn marked(alloc: Global, entries: &[Entry], entry: u32) -> Result<Vec<bool>, AllocError>
-    requires below { entry < length entries.now }
-    requires earlier { NameEarlier entries.now }
-    ensures { IfOk result (λ marks. AreMarks entries.now entry marks.items) }
-{
-    let mut marks = vec![in alloc; false; entries.len()]?;
-    marks[entry as usize] = true;
-    mark_premises(entries, &mut marks);
-    Ok(marks)
-}
-
-/// Marks the entries with these numbers and those on which they rest.
-pub(crate) fn marked_all(
+/// Marks the entries with these numbers and those on which they rest, and no other.
+pub(crate) fn marked(
     alloc: Global,
     entries: &[Entry],
     numbers: &[u32],
 ) -> Result<Vec<bool>, AllocError>
     requires below { All (λ n. n < length entries.now) numbers.now }
     requires earlier { NameEarlier entries.now }
-    ensures { IfOk result (λ marks. AreAllMarked entries.now marks.items) }
+    ensures { IfOk result (λ marks. AreMarks entries.now numbers.now marks.items) }
 {
     let mut marks = vec![in alloc; false; entries.len()]?;
     mark_all(&mut marks, numbers);

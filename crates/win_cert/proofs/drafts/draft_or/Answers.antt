@@ -5,6 +5,6 @@ use Rattle.win_cert.specs.Cutting.{NameEarlier}
 use Rattle.win_cert.proofs.CutDerivations.{name_earlier}
 use Rattle.win_cert.proofs.drafts.draft_or.Goals as goal
 
-pub marked_all-requires-clause-earlier : goal.marked_all-requires-clause-earlier
-marked_all-requires-clause-earlier c = subst (λ (es : List Entry). NameEarlier es)
+pub marked-requires-clause-earlier : goal.marked-requires-clause-earlier
+marked-requires-clause-earlier c = subst (λ (es : List Entry). NameEarlier es)
     (sym c.entries.ensures.value) (name_earlier c.store-store.result.now c.entries.ensures.sound)
