@@ -11,15 +11,13 @@ use Rattle.hex_cells.proofs.Ranges.{find_first, find_none}
 use Rattle.hex_board.specs.Elements.{PlayerBoard, HasCell, edge_element}
 use Rattle.hex_board.specs.Joined.{cells_of}
 use Rattle.hex_board.specs.Places.{at_cell, is_member}
-use Rattle.hex_board.specs.Positions.{Position, Within, stones_of}
-use Rattle.hex_cells.specs.declared.colours.Colour.{Colour}
-use Rattle.hex_cells.specs.declared.colours.Colour.TheVariants.{Black, White}
+use Rattle.hex_board.specs.Positions.{Within, stones_of}
 use Rattle.hex_board.proofs.Placed.{empty_on}
 use Rattle.hex_board.proofs.Places.{cell_in, cell_out}
 use Rattle.conn_store.proofs.Ways.{own_cell}
 use Rattle.win_cert.specs.Entries.{Context, element_on, elements_at, end_for}
 use Rattle.win_cert.specs.Entries.{entry_at, gives, lift_between, lift_entry}
-use Rattle.win_cert.specs.Scopes.{elements_in, is_part, with_stones}
+use Rattle.win_cert.specs.Scopes.{elements_in, is_part}
 use Rattle.win_cert.specs.declared.lines.End.{End}
 use Rattle.win_cert.specs.declared.lines.End.TheVariants.{At, First, Second}
 use Rattle.win_cert.specs.declared.lines.Line.TheVariants.{Lift}
@@ -110,10 +108,3 @@ pub lift_gives : {o p : Option ℕ} (c : Context) (i : ℕ) (a : Given)
 lift_gives {o = o} c i a named x y = ap (λ e. lift_entry c (cons_option e [])) named
     ∙ ap (λ v. lift_between c (entry_of a) v (element_on (elements_at c) (elements_in c.base a.scope) a.y)) x
     ∙ ap (λ v. lift_between c (entry_of a) o v) y
-
-pub same_size : (base : PlayerBoard) (s : ℕ) → (elements_in base s).board.size ≡ base.board.size
-same_size base s = sized base.board base.player s
-  where
-    sized : (p : Position) (c : Colour) (s : ℕ) → (with_stones p c s).size ≡ p.size
-    sized p Black s = refl
-    sized p White s = refl

@@ -9,28 +9,18 @@ use Rattle.conn_store.specs.declared.entries.Kind.TheVariants.{Full, Semi}
 use Rattle.win_cert.specs.Entries.{Context, ScopedEntry, carriers_of, elements_at, entries_at}
 use Rattle.win_cert.specs.Entries.{entry_at, entry_between, gives, or_entry}
 use Rattle.win_cert.specs.Reasons.{reason_against}
-use Rattle.win_cert.specs.declared.reasons.Reason.{Reason}
 use Rattle.win_cert.specs.declared.reasons.Reason.TheVariants.{BadReference, EndsDiffer, CommonCell}
 use Rattle.win_cert.specs.declared.reasons.Reason.TheVariants.{WrongScope}
 use Rattle.win_cert.specs.Scopes.{elements_in}
 use Rattle.win_cert.specs.Statements.{have_same_ends, may_take, same_ends, share_cell}
-use Rattle.win_cert.specs.declared.statements.Statement.{Statement}
 use Rattle.win_cert.specs.declared.statements.Statement.TheVariants.{Derivation}
 use Rattle.win_cert.specs.declared.lines.Line.{Line}
 use Rattle.win_cert.specs.declared.lines.Line.TheVariants.{Adj, And, Key, Or2, Or3, Put, Done, Move}
 use Rattle.win_cert.specs.declared.lines.Line.TheVariants.{Cases, Lift, OrMany}
-use Rattle.win_cert.proofs.CutSteps.{many_reasons, two_reasons, three_reasons}
+use Rattle.win_cert.proofs.CutSteps.{many_reasons, or_reason, two_reasons, three_reasons}
 use Rattle.cert_check.specs.Keeping.{IsGivenOn, IsOrOf, TakesKind, entry_of}
 use Rattle.cert_check.specs.declared.given.Given.{Given}
 use Rattle.cert_check.proofs.ReasonLaws.{told}
-
--- the reason against an `or` of these numbers
-abbrev pub or_reason : Context → Statement → List ℕ → Option Reason
-or_reason c s numbers =
-    told (not (list_all (λ i. may_take s (entry_at c i)) numbers)) BadReference
-    (told (not (list_all (λ a. a.scope == c.scope) (entries_at c numbers))) WrongScope
-    (told (not (have_same_ends (entries_at c numbers))) EndsDiffer
-    (told (share_cell (entries_at c numbers)) CommonCell None)))
 
 pub or_reasons : (c : Context) (line : Line) (numbers : List ℕ) → IsOrOf line numbers
     → reason_against c (Derivation line) ≡ or_reason c (Derivation line) numbers

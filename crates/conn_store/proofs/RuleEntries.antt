@@ -6,8 +6,8 @@ use Rattle.std.proofs.lemmas.Bool.{false_from_ne_true, and_parts}
 use Rattle.std.proofs.lemmas.List.Elements.{All-cons, All-head, All-nil}
 use Rattle.std.proofs.lemmas.Option.{same_Some, slice_get_read}
 use Rattle.hex_cells.specs.Sets.{has, with_cell}
-use Rattle.hex_board.specs.Elements.{PlayerBoard, HasCell}
-use Rattle.hex_board.specs.Positions.{AllEmpty, Within, stones_of, is_empty_at}
+use Rattle.hex_board.specs.Elements.{PlayerBoard}
+use Rattle.hex_board.specs.Positions.{AllEmpty, Within, stones_of}
 use Rattle.hex_board.proofs.Places.{empty_alone}
 use Rattle.conn_store.specs.Entries.{IsBetween, IsValid, Misses}
 use Rattle.conn_store.specs.Over.{IsOneCell}
@@ -28,16 +28,6 @@ pub stands : (d : StoreData) (xs : List Entry) (i : ℕ) (a : Entry) → xs ≡ 
     → i < length d.entries → a ≡ get_or xs i a → slice_get d.entries i ≡ Some a
 stands d xs i a e l f = slice_get_read d.entries (length d.entries) i a refl l
     (f ∙ ap (λ (v : List Entry). get_or v i a) e)
-
--- ---- an element and a set of empty cells
-
-pub is_group : (e f : PlayerBoard) (u : ℕ) → e ≡ f
-    → ((k : ℕ) → is_empty_at e.board k ≡ true → ¬ (HasCell e u k)) → IsGroup f u
-is_group e f u q g = subst (λ v. IsGroup v u) q (λ k c. g k c.0 c.1)
-
-pub is_cell : (e f : PlayerBoard) (u k : ℕ) → e ≡ f → (is_empty_at e.board k ≡ true) × HasCell e u k
-    → IsCell f u k
-is_cell e f u k q g = subst (λ v. IsCell v u k) q g
 
 pub entry_with : (entry : Entry) (kind : Kind) (x y c d : ℕ) (cause : Cause) → c ≡ d
     → IsEntry entry kind x y c cause → IsEntry entry kind x y d cause
@@ -151,7 +141,7 @@ AreThreeApart a b c = (k : ℕ) → has a.carrier k ≡ true → has b.carrier k
 own_pair : (a : Entry) → a.x < a.y → IsBetween a a.x a.y
 own_pair a l = (omega arith, omega arith)
 
-like_pair : (a b : Entry) → a.x < a.y → a.x ≡ b.x → a.y ≡ b.y → IsBetween b a.x a.y
+pub like_pair : (a b : Entry) → a.x < a.y → a.x ≡ b.x → a.y ≡ b.y → IsBetween b a.x a.y
 like_pair a b l e f = (omega arith, omega arith)
 
 pub two_ways : (a b : Entry) → a.x < a.y → AreWays a b → AreApart a b → OrRule (a ∷ b ∷ []) a.x a.y

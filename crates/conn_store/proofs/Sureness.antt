@@ -34,7 +34,7 @@ without_keeps s j k h n = wo_in (has s k) (has (without_cell s j) k) k j (has_wi
 pub without_itself : (s j : ℕ) → has (without_cell s j) j ≡ false
 without_itself s j = wo_itself (has s j) (has (without_cell s j) j) j (has_without s j j)
 
-with_both : (s t j : ℕ) → IsSubset s t → IsSubset (with_cell s j) (with_cell t j)
+pub with_both : (s t j : ℕ) → IsSubset s t → IsSubset (with_cell s j) (with_cell t j)
 with_both s t j f k h
     = elim (with_cell-cases s j k h) [ inl o ↦ with_cell-keeps t j k (f k o) | inr e ↦ subst (λ v. has (with_cell t j) v ≡ true) (sym e) (with_cell-here t j) ]
 

@@ -38,7 +38,7 @@ first_passes : (n : ℕ) (c : Colour) (P : Place → Type 0) (p : Place) (ps : L
 first_passes n c P p [] w = w
 first_passes n c P p (q ∷ qs) w = w.0
 
-joined_route : (n : ℕ) (c : Colour) (P : Place → Type 0) (p q r : Place) (ps : List Place)
+pub joined_route : (n : ℕ) (c : Colour) (P : Place → Type 0) (p q r : Place) (ps : List Place)
     → Route n c P p ps → last_place p ps ≡ q → Way n c P q r → Way n c P p r
 joined_route n c P p q r [] w e v = subst (λ u. Way n c P u r) (sym e) v
 joined_route n c P p q r (t ∷ ts) w e v

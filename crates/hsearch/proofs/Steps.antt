@@ -14,7 +14,7 @@ use Rattle.hex_cells.proofs.WithCell.{with_cell-here}
 use Rattle.hex_board.specs.Elements.{HasCell, PlayerBoard, element_count}
 use Rattle.hex_board.specs.Places.{is_near}
 use Rattle.conn_store.specs.Entries.{IsBetween}
-use Rattle.conn_store.specs.Over.{CanAnd, IsFullOf, IsOneCell, IsOver}
+use Rattle.conn_store.specs.Over.{IsFullOf, IsOneCell, IsOver}
 use Rattle.conn_store.specs.Rules.{AndRule, AreAt, FollowsBy, IsCell, IsGroup, OrRule}
 use Rattle.conn_store.specs.Rules.{adjacent_entry, both_of, union_of}
 use Rattle.conn_store.specs.Stores.{CanOr, GivesAnd, IsCovered, MayBeAdded, IsPairFull, IsSound}
@@ -228,9 +228,6 @@ place_of list i (q, l, e) = (q, l, get_or_default list q 0 i l ∙ e)
 pub over_put : (d f : StoreData) (i j u : ℕ) (entry : Entry) (put : Put) → i < length d.entries
     → j < length d.entries → GivesAnd d i j entry → IsPut d f entry put → IsAndSettledOver f i j u
 over_put d f i j u entry put l m g p a b x y at = joined_put d f i j entry put l m g p a b x u y at
-
-pub over_none : (d : StoreData) (i j u : ℕ) → ¬ (CanAnd d i j u) → IsAndSettledOver d i j u
-over_none d i j u n a b x y at r m = absurd (n (a, b, x, y, at, r))
 
 -- what is known when the numbers at the places below p of a list were gone through
 pub record IsJoined (d f : StoreData) (n u : ℕ) (list : List ℕ) (p : ℕ) : Type 0 where

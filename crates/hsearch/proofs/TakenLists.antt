@@ -13,12 +13,11 @@ use Rattle.hex_board.specs.Elements.{element_count}
 use Rattle.conn_store.specs.Over.{IsFullOf}
 use Rattle.conn_store.specs.Stores.{StoreData}
 use Rattle.conn_store.specs.declared.entries.Entry.{Entry}
-use Rattle.conn_store.specs.declared.entries.Kind.TheVariants.{Semi}
 use Rattle.hsearch.specs.Listed.{AreListed, IsEnlisted, IsListedAt, Lists}
 use Rattle.hsearch.specs.Taken.{Extends, IsGrown}
 use Rattle.hsearch.proofs.Growth.{entry_was, grown_longer}
 use Rattle.hsearch.proofs.Queues.{contains_none}
-use Rattle.hsearch.proofs.Steps.{kinds_apart, middle_of}
+use Rattle.hsearch.proofs.Steps.{middle_of}
 
 -- ---- one number more
 
@@ -87,14 +86,6 @@ enlisted_full v w z n a e g l m =
         | inr s ↦ subst (λ y. Lists z y n) (sym s) (at_itself w z a.y n g o)
       ];
     }
-
-pub enlisted_semi : (v : List (List ℕ)) (n : ℕ) (a : Entry) → a.kind ≡ Semi → IsEnlisted v n a v
-enlisted_semi v n a k = record {
-  count = refl;
-  kept = λ u i c. c;
-  others = λ u i c. inl c;
-  full = λ x u f. absurd (kinds_apart a.kind f.kind k);
-}
 
 -- ---- the lists of a report
 
@@ -178,10 +169,6 @@ none_at_all f lists k n l u i c = elim (cases_lt u k) [
   | inr m ↦ let s : length (map f lists) ≡ length lists = length-map lists f in
       contains_none i (subst (λ v. Contains v i) (get_or_past (map f lists) u [] (omega arith)) c)
 ]
-
-pub none_first : {Q : Type 0} (f : Q → List ℕ) (lists : List Q) → lists ≡ [] → (u i : ℕ)
-    → ¬ (Lists (map f lists) u i)
-none_first f lists e u i c = contains_none i (subst (λ xs. Contains (get_or (map f xs) u []) i) e c)
 
 -- ---- for the calls
 

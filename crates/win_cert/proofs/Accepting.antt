@@ -3,6 +3,7 @@
 use Rattle.std.proofs.Common.{◌≡◌, ℕ, ◌≤◌, ◌==◌, ◌&&◌, not, true, List, [], ◌∷◌, Some, None, length}
 use Rattle.std.proofs.Common.{take, refl, sym, ◌∙◌, ap, subst, zero, suc, arith}
 use Rattle.std.specs.List.{cons_option, list_all, slice_get}
+use Rattle.std.proofs.Math.Seq.{take-length}
 use Rattle.std.proofs.lemmas.Bool.{and_from, eq-eqb}
 use Rattle.conn_store.specs.Stores.{same_kind}
 use Rattle.conn_store.specs.declared.entries.Kind.{Kind}
@@ -25,10 +26,6 @@ use Rattle.win_cert.specs.Showing.{GivesEdges}
 
 abbrev pub first_of : Cert → Context
 first_of cert = first_context cert.board cert.player
-
-take_all : {X : Type 0} (xs : List X) → take (length xs) xs ≡ xs
-take_all [] = refl
-take_all (x ∷ xs) = ap (λ ys. x ∷ ys) (take_all xs)
 
 after_take : (c : Context) (xs : List Line) (k : ℕ) (x : Line) → slice_get xs k ≡ Some x
     → after_lines c (take (suc k) xs) ≡ context_after (after_lines c (take k xs)) x
@@ -54,7 +51,7 @@ read_over cert (suc k) l =
 pub read_all : (cert : Cert) → context_at cert (length cert.lines) ≡ after_lines
     (first_of cert) cert.lines
 read_all cert = read_over cert (length cert.lines) (omega arith)
-    ∙ ap (after_lines (first_of cert)) (take_all cert.lines)
+    ∙ ap (after_lines (first_of cert)) (take-length cert.lines)
 
 -- ---- the claim
 

@@ -2,6 +2,7 @@
 use Rattle.std.proofs.Common.{◌≡◌, ℕ, ◌+◌, ◌-◌, ◌*◌, ◌<◌, ◌≤◌, ◌⊎◌, inl, inr, zero, suc, leb, Bool}
 use Rattle.std.proofs.Common.{true, false, cond, List, [], ◌∷◌, map, Some, None, refl, ap, sym, ◌∙◌}
 use Rattle.std.proofs.Common.{subst, arith}
+use Rattle.std.proofs.lemmas.Bool.{leb-true, le-leb}
 use Rattle.std.specs.List.{filter, range_with_len}
 use Rattle.std.specs.Option.{option_and_then}
 use Rattle.std.proofs.lemmas.Bool.{cases_eq, false_from_ne_true}
@@ -16,7 +17,7 @@ use Rattle.win_cert.specs.Named.{cell_named, set_named}
 use Rattle.win_cert.specs.Texts.{vertices_of}
 use Rattle.win_cert.proofs.CellLists.{cells_within, none_within}
 use Rattle.win_cert.proofs.CellWords.{cell_back, cell_means}
-use Rattle.win_cert.proofs.Options.{leb_holds, leb_says, some_of_test, some_of_then}
+use Rattle.win_cert.proofs.Options.{some_of_test, some_of_then}
 
 -- ---- from a set to its vertices, and back
 
@@ -32,7 +33,7 @@ pick n s b l true cells u size low on rest =
     let words = map (vertex_of n) cells in
     ap (option_and_then (λ k. cond (leb b k) (set_named n (with_cell s k) (suc k) words) None))
     (cell_back n l size on)
-    ∙ ap (λ t. cond t (set_named n (with_cell s l) (suc l) words) None) (leb_holds b l low)
+    ∙ ap (λ t. cond t (set_named n (with_cell s l) (suc l) words) None) (le-leb b l low)
     ∙ rest (suc l) (omega arith)
 pick n s b l false cells u size low on rest = rest b (omega arith)
 
@@ -143,7 +144,7 @@ names n s b (word ∷ words) u e below high =
     (cell_named n word) u e in
     let k : ℕ = found.0 in
     let rest = some_of_test (leb b k) (set_named n (with_cell s k) (suc k) words) u found.2 in
-    let low : b ≤ k = leb_says b k rest.0 in
+    let low : b ≤ k = leb-true b k rest.0 in
     let means = cell_means n word k found.1 in
     let on : k < n * n = means.0 in
     let under : (j : ℕ) → has (with_cell s k) j ≡ true → j < suc k

@@ -1,5 +1,5 @@
 -- Where the claimed line is a `move`, its cell is empty, and the player wins after his stone there.
-use Rattle.std.proofs.Common.{◌≡◌, ℕ, ◌<◌, ◌==◌, ◌&&◌, ◌||◌, nat_lt, true, false, List, [], ◌∷◌}
+use Rattle.std.proofs.Common.{◌≡◌, ℕ, ◌<◌, ◌==◌, ◌&&◌, ◌||◌, nat_lt, true, false, [], ◌∷◌}
 use Rattle.std.proofs.Common.{◌++◌, Some, length, bit_or, refl, sym, ◌∙◌, ap, subst, zero}
 use Rattle.std.proofs.Common.{suc, inl, inr, arith}
 use Rattle.std.proofs.Common.{option_and_then}
@@ -36,6 +36,7 @@ use Rattle.win_cert.specs.declared.statements.Statement.TheVariants.{Claim, Deri
 use Rattle.win_cert.specs.Reasons.{applies}
 use Rattle.win_cert.proofs.AcceptedLaw.{some_named}
 use Rattle.win_cert.proofs.CaseLines.{edges_good}
+use Rattle.win_cert.proofs.CutDerivations.{last_at}
 use Rattle.win_cert.proofs.EdgeEntries.{IsGoodOfEdges}
 use Rattle.win_cert.proofs.GivenEntries.{at_left, claim_clear, gave_good, line_clear}
 use Rattle.win_cert.proofs.GoodEntries.{IsGood}
@@ -52,10 +53,6 @@ below_count cert (suc n) =
     let e = below_count cert n in
     length-append (entries_below cert n) (y ∷ []) ∙ omega (arith, e)
 
-at_end : {X : Type 0} (xs : List X) (y : X) → slice_get (xs ++ y ∷ []) (length xs) ≡ Some y
-at_end [] y = refl
-at_end (x ∷ xs) y = at_end xs y
-
 given_at : (cert : Cert) (n : ℕ) (line : Line) (m : ℕ) → slice_get cert.lines n ≡ Some line → n < m
     → slice_get (entries_below cert m) n ≡ Some (gives (context_at cert n) line)
 given_at cert n line zero e l = absurd (omega (arith, l))
@@ -67,7 +64,7 @@ given_at cert n line (suc m) e l =
       | inr t ↦ let q = ltb-false n m t in let same : m ≡ n = omega (arith, l, q) in
           subst (λ v. slice_get (entries_below cert v ++ option_and_then (gives (context_at cert v)) (slice_get cert.lines v) ∷ []) n ≡ Some (gives (context_at cert n) line)) (sym same)
           (subst (λ v. slice_get (entries_below cert n ++ option_and_then (gives (context_at cert n)) (slice_get cert.lines n) ∷ []) v ≡ Some (gives (context_at cert n) line)) (below_count cert n)
-          (at_end (entries_below cert n) (option_and_then (gives (context_at cert n)) (slice_get cert.lines n)) ∙ ap (λ o. Some (option_and_then (gives (context_at cert n)) o)) e))
+          (last_at (entries_below cert n) (option_and_then (gives (context_at cert n)) (slice_get cert.lines n)) ∙ ap (λ o. Some (option_and_then (gives (context_at cert n)) o)) e))
     ]
 
 -- ---- the claimed line lies in the empty scope

@@ -11,6 +11,7 @@ use Rattle.std.proofs.lemmas.Option.{slice_get-get_or, slice_get_within}
 use Rattle.conn_store.specs.declared.entries.Entry.{Entry}
 use Rattle.win_cert.specs.Cuts.{premises}
 use Rattle.win_cert.specs.Cutting.{AreInside, IsClosedFrom, IsMarkedBy, NameEarlier, is_marked}
+use Rattle.win_cert.proofs.CutDerivations.{some_entry}
 
 kept_one : (m : List Bool) (i j : ℕ) → j < length m → is_marked m i ≡ true
     → is_marked (set m j true) i ≡ true
@@ -86,15 +87,12 @@ pub closed_more : (entries : List Entry) (m n : List Bool) (left : ℕ) (a : Ent
     → IsMarkedBy m (premises a.cause) n → IsClosedFrom entries n left
 closed_more entries m n left a e c q w j b l h p = elim (cases_eq j left) [
   | inl s ↦ let same : a ≡ b
-      = some_same_entry a b (sym q ∙ subst (λ v. slice_get entries v ≡ Some b) s p) in
+      = some_entry a b (sym q ∙ subst (λ v. slice_get entries v ≡ Some b) s p) in
       subst (λ v. All (λ k. is_marked n k ≡ true) (premises v.cause)) same w.more
   | inr d ↦ All-weaker (λ k. is_marked m k ≡ true) (λ k. is_marked n k ≡ true) w.kept
       (premises b.cause)
       (c j b (omega (arith, l, d)) (sym (w.rest left j (e left a q) l) ∙ h) p)
 ]
-  where
-    some_same_entry : (a b : Entry) → Some a ≡ Some b → a ≡ b
-    some_same_entry a b h = cc
 
 -- an entry that is read
 pub read_at : (entries : List Entry) (i : ℕ) (a : Entry) → i < length entries

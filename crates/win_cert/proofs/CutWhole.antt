@@ -7,7 +7,7 @@ use Rattle.std.specs.List.{slice_get}
 use Rattle.std.proofs.Math.ListN.{get_or-append}
 use Rattle.std.proofs.Math.Seq.{get_or-append_seam}
 use Rattle.std.proofs.lemmas.Bool.{cases_order, true≢false}
-use Rattle.std.proofs.lemmas.List.{map-append}
+use Rattle.std.proofs.lemmas.List.{append-nil, map-append}
 use Rattle.std.proofs.lemmas.List.Elements.{All-push}
 use Rattle.std.proofs.lemmas.Option.{slice_get_within}
 use Rattle.hex_board.specs.Elements.{PlayerBoard}
@@ -33,7 +33,7 @@ use Rattle.win_cert.proofs.Appending.{entry_kept, entry_last, length_after}
 use Rattle.win_cert.proofs.CutDerivations.{longer, name_earlier, some_at, some_entry}
 use Rattle.win_cert.proofs.CutLines.{AreOrdered, IsPlaced, IsSmallAt, line_form, line_right}
 use Rattle.win_cert.proofs.CutSteps.{IsRight, unscoped_board}
-use Rattle.win_cert.proofs.Supports.{picked_more, picked_same}
+use Rattle.win_cert.proofs.Supports.{picked_next}
 
 -- ---- the scope stays
 
@@ -140,7 +140,7 @@ one_more d marks n lines renamed a line w s most closed at known form =
       gives = ap (λ (x : Context). x.earlier) next ∙ ap (λ o. cx.earlier ++ o ∷ []) gives
           ∙ ap (λ es. es ++ given a ∷ []) w.gives
           ∙ sym (map-append given (entries_numbered (is_marked marks) (take n d.entries)) (a ∷ []))
-          ∙ ap (map given) (sym (picked_more (is_marked marks) d.entries n a at known));
+          ∙ ap (map given) (sym (picked_next (is_marked marks) d.entries n a true at known));
       places = λ i b l h g. ap (λ (x : Context). entry_at x (get_or more i 0)) next
           ∙ elim (cases_order i n) [
             | inl p ↦
@@ -157,9 +157,9 @@ one_more d marks n lines renamed a line w s most closed at known form =
 
 -- an entry that is not marked has no line
 pub none_more : (d : StoreData) (marks : List Bool) (n : ℕ) (lines : List Line) (renamed : List ℕ)
-    → AreLinesFor d marks n lines renamed → is_marked marks n ≡ false
-    → AreLinesFor d marks (n + 1) lines (renamed ++ length lines ∷ [])
-none_more d marks n lines renamed w h =
+    (a : Entry) → AreLinesFor d marks n lines renamed → slice_get d.entries n ≡ Some a
+    → is_marked marks n ≡ false → AreLinesFor d marks (n + 1) lines (renamed ++ length lines ∷ [])
+none_more d marks n lines renamed a w at h =
     let k : length renamed ≡ n = w.number in
     let f : length lines ≤ n = w.few in
     record {
@@ -168,11 +168,12 @@ none_more d marks n lines renamed w h =
       form = w.form;
       clear = w.clear;
       scope = w.scope;
-      gives = w.gives ∙ ap (map given) (sym (picked_same (is_marked marks) d.entries n h));
-      places = λ i a l g q. elim (cases_order i n) [
+      gives = w.gives
+          ∙ ap (map given) (sym (picked_next (is_marked marks) d.entries n a false at h ∙ append-nil (entries_numbered (is_marked marks) (take n d.entries))));
+      places = λ i b l g q. elim (cases_order i n) [
         | inl p ↦ absurd (true≢false (sym g ∙ ap (is_marked marks) p ∙ h))
         | inr (inl p) ↦ ap (entry_at (after_lines (report_context d) lines))
-            (get_or-append renamed (length lines ∷ []) 0 i (omega (arith, p))) ∙ w.places i a p g q
+            (get_or-append renamed (length lines ∷ []) 0 i (omega (arith, p))) ∙ w.places i b p g q
         | inr (inr p) ↦ absurd (omega arith)
       ];
     }

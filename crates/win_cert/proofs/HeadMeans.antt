@@ -2,6 +2,7 @@
 use Rattle.std.proofs.Common.{◌≡◌, ◌≢◌, ℕ, ◌≤◌, ◌⊎◌, ◌&&◌, leb, eqb, bit_and, inl, inr, Bool}
 use Rattle.std.proofs.Common.{true, false, cond, List, [], ◌∷◌, ◌++◌, Option, Some, None, Result, Ok, Err}
 use Rattle.std.proofs.Common.{refl, ap, ◌∙◌, subst, codes, arith}
+use Rattle.std.proofs.lemmas.Bool.{leb-true}
 use Rattle.std.specs.Fmt.{decimal}
 use Rattle.std.specs.Option.{option_and_then, option_map}
 use Rattle.std.specs.Str.{bytes_eq}
@@ -22,7 +23,7 @@ use Rattle.win_cert.specs.declared.heads.Head.{Head}
 use Rattle.win_cert.specs.declared.refusals.CertError.{CertError}
 use Rattle.win_cert.proofs.CellLists.{apart_of}
 use Rattle.win_cert.proofs.CellSets.{cells_mean}
-use Rattle.win_cert.proofs.Options.{leb_says, some_of_map, some_of_test, some_of_then}
+use Rattle.win_cert.proofs.Options.{some_of_map, some_of_test, some_of_then}
 use Rattle.win_cert.proofs.WordParts.{Words, after_means, alone_means, number_means}
 use Rattle.std.proofs.lemmas.Option.{cond_some}
 
@@ -91,8 +92,8 @@ number_after_means name least most words i e =
     let end = alone_means first.0.0 i first.0.1 range.1 in
     let number = number_means rest.0 first.0 first.1 in
     record {
-      low = subst (λ j. least ≤ j) end.0 (leb_says least first.0.0 both.0);
-      high = subst (λ j. j ≤ most) end.0 (leb_says first.0.0 most both.1);
+      low = subst (λ j. least ≤ j) end.0 (leb-true least first.0.0 both.0);
+      high = subst (λ j. j ≤ most) end.0 (leb-true first.0.0 most both.1);
       is = after_means name words rest.0 rest.1
           ∙ ap (λ ws. name ∷ ws)
           (number.is ∙ ap (λ ws. decimal first.0.0 ∷ ws) end.1 ∙ ap (λ j. decimal j ∷ []) end.0);

@@ -1,6 +1,6 @@
 -- Links of elements on a board with more stones of the player's: elements that hold others are
 -- linked where those are.
-use Rattle.std.proofs.Common.{◌≡◌, ℕ, Bool, true, List, [], ◌∷◌, ap, refl, sym, ◌∙◌, subst}
+use Rattle.std.proofs.Common.{◌≡◌, ℕ, Bool, true, [], ap, refl, sym, ◌∙◌, subst}
 use Rattle.std.proofs.Common.{inl, inr, ◌⊎◌}
 use Rattle.std.specs.List.{count_by, range_with_len}
 use Rattle.std.proofs.lemmas.Bool.{both_ways}
@@ -15,7 +15,7 @@ use Rattle.hex_board.proofs.Placed.{stone_full}
 use Rattle.hex_board.proofs.Places.{empty_alone}
 use Rattle.conn_store.specs.Laws.{IsSubset}
 use Rattle.conn_store.specs.Links.{MayPass, StonesLink}
-use Rattle.conn_store.proofs.Ways.{Own, Way, group_way, own_cell, route_as}
+use Rattle.conn_store.proofs.Ways.{Own, Way, group_way, joined_route, own_cell, route_as}
 use Rattle.win_cert.proofs.LinksOn.{cell_on, link_on, member_on}
 use Rattle.win_cert.proofs.StonesOn.{empty_same, on_board, own_inside, own_within}
 
@@ -45,12 +45,6 @@ free_place e x k p f h i
     (cell_on e x k h) (member_on e x p i)
 
 -- ---- paths
-
-join_ways : (n : ℕ) (c : Colour) (P : Place → Type 0) (p q r : Place) (ps : List Place)
-    → Route n c P p ps → last_place p ps ≡ q → Way n c P q r → Way n c P p r
-join_ways n c P p q r [] w e v = subst (λ u. Way n c P u r) (sym e) v
-join_ways n c P p q r (t ∷ ts) w e v = let z = join_ways n c P t q r ts w.2 e v in
-    (t ∷ z.0, (w.0, w.1, z.1), z.2)
 
 way_as : (e : PlayerBoard) (P : Place → Type 0) (p q : Place) → ((r : Place) → Own e r → P r)
     → Way e.board.size e.player (Own e) p q → Way e.board.size e.player P p q
@@ -138,8 +132,8 @@ link_held e d x y v w s t m a b j i link =
     (λ k h. second_there e d y v w t k m i b h) l.3 (member_on e y b.place b.from) in
     let middle : Route n e.player P l.0 l.1
     = route_as n e.player (MayPass f x y s) P l.0 l.1 (pass_there e d x y v w s t m i a b j) l.4 in
-    let way = join_ways n e.player P a.place l.0 b.place first.0 first.1 first.2
-    (join_ways n e.player P l.0 (last_place l.0 l.1) b.place l.1 middle refl last) in (
+    let way = joined_route n e.player P a.place l.0 b.place first.0 first.1 first.2
+    (joined_route n e.player P l.0 (last_place l.0 l.1) b.place l.1 middle refl last) in (
       a.place,
       way.0,
       a.to,

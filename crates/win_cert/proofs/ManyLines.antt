@@ -17,6 +17,7 @@ use Rattle.conn_store.specs.Rules.{OrRule, is_in_all, union_of}
 use Rattle.conn_store.specs.Stores.{same_kind}
 use Rattle.conn_store.specs.declared.entries.Entry.{Entry}
 use Rattle.conn_store.specs.declared.entries.Kind.TheVariants.{Full, Semi}
+use Rattle.conn_store.proofs.RuleEntries.{like_pair}
 use Rattle.conn_store.proofs.Tables.{kinds_are}
 use Rattle.win_cert.specs.Cuts.{scoped}
 use Rattle.win_cert.specs.Entries.{Context, ScopedEntry, carriers_of, elements_at, entries_at}
@@ -97,10 +98,7 @@ kinds_of s scope (a ∷ entries) h =
     All-cons (λ (b : Entry). b.kind ≡ kind_taken s) a entries
     (taken_kind s a scope (Some (scoped scope a)) refl t.0) (kinds_of s scope entries t.1)
 
-like_pair : (a b : Entry) → a.x < a.y → a.x ≡ b.x → a.y ≡ b.y → IsBetween b a.x a.y
-like_pair a b l e f = (omega arith, omega arith)
-
-pub same_pair : (a b : Entry) → (a.x == b.x && a.y == b.y) ≡ true → (a.x ≡ b.x) × (a.y ≡ b.y)
+same_pair : (a b : Entry) → (a.x == b.x && a.y == b.y) ≡ true → (a.x ≡ b.x) × (a.y ≡ b.y)
 same_pair a b h = let t = and_parts (a.x == b.x) (a.y == b.y) h in
     (eqb-true a.x b.x t.0, eqb-true a.y b.y t.1)
 

@@ -3,13 +3,13 @@
 use Rattle.std.proofs.Common.{◌≡◌, ℕ, true, false, sym, subst, zero, suc, inl, inr, ◌⊎◌, arith}
 use Rattle.std.proofs.lemmas.Bool.{cases_Bool, both_ways, false_from_ne_true}
 use Rattle.hex_cells.specs.Sets.{has, with_cell, without_cell}
-use Rattle.hex_cells.proofs.WithCell.{with_cell-cases, with_cell-here, with_cell-keeps}
+use Rattle.hex_cells.proofs.WithCell.{with_cell-cases}
 use Rattle.conn_store.specs.Laws.{IsSubset}
 use Rattle.conn_store.specs.Truth.{IsSureIn}
 use Rattle.conn_store.specs.declared.entries.Kind.{Kind}
 use Rattle.conn_store.specs.declared.entries.Kind.TheVariants.{Full, Semi}
 use Rattle.conn_store.proofs.Sureness.{IsKept, more_stones, same, semi_of_full, sure_wider}
-use Rattle.conn_store.proofs.Sureness.{without_inside, without_itself, without_keeps}
+use Rattle.conn_store.proofs.Sureness.{with_both, without_inside, without_itself, without_keeps}
 
 -- each cell of c has a stone of t, or is in d
 abbrev pub IsCovered : ℕ → ℕ → ℕ → Type 0
@@ -42,12 +42,6 @@ stone_inside : (s t k : ℕ) → IsSubset s t → has t k ≡ true → IsSubset 
 stone_inside s t k i o j h = elim (with_cell-cases s k j h) [
   | inl a ↦ i j a
   | inr e ↦ subst (λ v. has t v ≡ true) (sym e) o
-]
-
-stone_both : (s t k : ℕ) → IsSubset s t → IsSubset (with_cell s k) (with_cell t k)
-stone_both s t k i j h = elim (with_cell-cases s k j h) [
-  | inl a ↦ with_cell-keeps t k j (i j a)
-  | inr e ↦ subst (λ v. has (with_cell t k) v ≡ true) (sym e) (with_cell-here t k)
 ]
 
 -- he has the goal, or a cell is left
@@ -89,7 +83,7 @@ sure_stones (suc n) Semi G s t c d f i j (inr (k, h, g)) = elim (j k h) [
     k,
     o,
     sure_stones n Full G (with_cell s k) (with_cell t k) (without_cell c k) (without_cell d k) f
-        (stone_both s t k i)
+        (with_both s t k i)
         (covered_more (without_cell c k) t (with_cell t k) (without_cell d k) (more_stones t k) (covered_both c k t d j))
         g,
   )

@@ -1,7 +1,6 @@
 -- Answers that may be missing.
-use Rattle.std.proofs.Common.{arith, ℕ, ◌≡◌, ◌≤◌, leb, Bool, true, false, cond, Option, Some}
+use Rattle.std.proofs.Common.{◌≡◌, Bool, true, false, cond, Option, Some}
 use Rattle.std.proofs.Common.{None, refl}
-use Rattle.std.proofs.lemmas.Bool.Decides.{nat_tests}
 use Rattle.std.specs.Option.{option_and_then, option_map}
 
 pub some_of_test : {A : Type 0} (b : Bool) (o : Option A) (y : A) → cond b o None ≡ Some y
@@ -19,10 +18,3 @@ pub some_of_map : {A B : Type 0} (f : A → B) (o : Option A) (y : B) → option
     → (x : A) × (o ≡ Some x) × (f x ≡ y)
 some_of_map f (Some x) y e = (x, refl, cc)
 some_of_map f None y e = cc
-
--- the test of `at most`
-pub leb_says : (a b : ℕ) → leb a b ≡ true → a ≤ b
-leb_says a b e = grind (arith, nat_tests)
-
-pub leb_holds : (a b : ℕ) → a ≤ b → leb a b ≡ true
-leb_holds a b h = grind (arith, nat_tests)

@@ -2,6 +2,7 @@
 use Rattle.std.proofs.Common.{◌≡◌, ◌≢◌, ℕ, ◌+◌, ◌≤◌, ◌&&◌, leb, eqb, suc, bit_and, inl, inr}
 use Rattle.std.proofs.Common.{Bool, true, false, cond, List, [], ◌∷◌, ◌++◌, length, map, Option}
 use Rattle.std.proofs.Common.{Some, None, Result, Ok, Err, refl, ap, sym, ◌∙◌, codes, arith}
+use Rattle.std.proofs.lemmas.Bool.{le-leb}
 use Rattle.std.specs.Fmt.{decimal}
 use Rattle.std.specs.List.{All}
 use Rattle.std.specs.Option.{option_and_then, option_map}
@@ -33,7 +34,6 @@ use Rattle.win_cert.specs.declared.statements.Statement.TheVariants.{Claim, Deri
 use Rattle.win_cert.proofs.CellSets.{cells_back}
 use Rattle.win_cert.proofs.HeadMeans.{IsHead, TextLines, head_lines}
 use Rattle.win_cert.proofs.LineParts.{first_of_more}
-use Rattle.win_cert.proofs.Options.{leb_holds}
 use Rattle.win_cert.proofs.PlainWords.{plain_cert}
 use Rattle.win_cert.proofs.StepWords.{step_back}
 use Rattle.win_cert.proofs.StepsMean.{nothing}
@@ -57,8 +57,8 @@ number_after_back name least most i low high few =
     ap (option_and_then (λ rest. option_and_then test (first_number rest)))
     (after_back name (decimal i ∷ []))
     ∙ ap (option_and_then test) (number_back i [] few)
-    ∙ ap (λ b. cond (b && leb i most) (Some i) None) (leb_holds least i low)
-    ∙ ap (λ b. cond b (Some i) None) (leb_holds i most high)
+    ∙ ap (λ b. cond (b && leb i most) (Some i) None) (le-leb least i low)
+    ∙ ap (λ b. cond b (Some i) None) (le-leb i most high)
 
 pub player_back : (colour : Colour)
     → player_in (codes "player" ∷ colour_word colour ∷ []) ≡ Some colour

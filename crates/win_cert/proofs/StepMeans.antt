@@ -2,6 +2,7 @@
 use Rattle.std.proofs.Common.{◌≡◌, ℕ, ◌≤◌, ◌⊎◌, ◌&&◌, leb, inl, inr, Bool, true, false, cond}
 use Rattle.std.proofs.Common.{List, [], ◌∷◌, length, map, Option, Some, None, refl, ap, sym, ◌∙◌}
 use Rattle.std.proofs.Common.{subst, codes}
+use Rattle.std.proofs.lemmas.Bool.{leb-true}
 use Rattle.std.proofs.lemmas.Bool.{and_parts}
 use Rattle.std.specs.Fmt.{decimal}
 use Rattle.std.specs.List.{All}
@@ -30,7 +31,7 @@ use Rattle.win_cert.specs.declared.lines.TheConstants.{MOST_NUMBER}
 use Rattle.win_cert.specs.declared.statements.Statement.{Statement}
 use Rattle.win_cert.specs.declared.statements.Statement.TheVariants.{Claim, Derivation}
 use Rattle.win_cert.proofs.CellSets.{cells_mean}
-use Rattle.win_cert.proofs.Options.{leb_says, some_of_map, some_of_test, some_of_then}
+use Rattle.win_cert.proofs.Options.{some_of_map, some_of_test, some_of_then}
 use Rattle.win_cert.proofs.WordParts.{Words, alone_means, cell_first_means, end_first_means}
 use Rattle.win_cert.proofs.WordParts.{number_means, numbers_means}
 use Rattle.std.proofs.lemmas.Option.{cond_some}
@@ -138,7 +139,7 @@ many_means v n numbers s few e =
     (leb (length numbers) MOST_CASES) q.0 in
     let first = and_parts (leb THIRD_VERSION v) (leb LEAST_MANY (length numbers)) both.0 in
     subst (Means v n (codes "or") (map decimal numbers)) q.1 (
-      (leb_says THIRD_VERSION v first.0, leb_says LEAST_MANY (length numbers) first.1, leb_says (length numbers) MOST_CASES both.1, few),
+      (leb-true THIRD_VERSION v first.0, leb-true LEAST_MANY (length numbers) first.1, leb-true (length numbers) MOST_CASES both.1, few),
       refl,
     )
 
@@ -204,7 +205,7 @@ cases_means v n words s scopes e =
     let both = and_parts (leb LEAST_CASES (length p.0)) (leb (length p.0) MOST_CASES) q.0 in
     let numbers = numbers_means words p.0 p.1 in
     subst (Means v n (codes "cases") words) q.1 (
-      (scopes, leb_says LEAST_CASES (length p.0) both.0, leb_says (length p.0) MOST_CASES both.1, numbers.0),
+      (scopes, leb-true LEAST_CASES (length p.0) both.0, leb-true (length p.0) MOST_CASES both.1, numbers.0),
       ap (λ ws. codes "cases" ∷ ws) numbers.1,
     )
 
@@ -241,15 +242,15 @@ args_means v n keyword.Key words s t e
     = pair_means v n (codes "key") Key words s (λ i j a b. (two i j a b, refl)) e
 args_means v n keyword.Or words s t e = or_means v n words s e
 args_means v n keyword.Put words s t e
-    = put_means v n words s (leb_says SECOND_VERSION v t) e
+    = put_means v n words s (leb-true SECOND_VERSION v t) e
 args_means v n keyword.Done words s t e
-    = done_means v n words s (leb_says SECOND_VERSION v t) e
+    = done_means v n words s (leb-true SECOND_VERSION v t) e
 args_means v n keyword.Move words s t e
-    = move_means v n words s (leb_says SECOND_VERSION v t) e
+    = move_means v n words s (leb-true SECOND_VERSION v t) e
 args_means v n keyword.Cases words s t e
-    = cases_means v n words s (leb_says SECOND_VERSION v t) e
+    = cases_means v n words s (leb-true SECOND_VERSION v t) e
 args_means v n keyword.Lift words s t e
-    = lift_means v n words s (leb_says LATEST_VERSION v t) e
+    = lift_means v n words s (leb-true LATEST_VERSION v t) e
 args_means v n keyword.Full words s t e = claim_means v n Full words s e
 args_means v n keyword.Semi words s t e = claim_means v n Semi words s e
 

@@ -1,6 +1,7 @@
 -- What the words of a line say is what they are the words of, and the other way round.
 use Rattle.std.proofs.Common.{◌≡◌, ℕ, ◌*◌, ◌<◌, ◌≤◌, ◌&&◌, leb, true, cond, List, [], ◌∷◌}
 use Rattle.std.proofs.Common.{length, map, Some, None, refl, ap, ◌∙◌, codes, arith}
+use Rattle.std.proofs.lemmas.Bool.{le-leb}
 use Rattle.std.specs.Fmt.{decimal}
 use Rattle.std.specs.List.{All}
 use Rattle.std.specs.Option.{option_and_then, option_map}
@@ -25,7 +26,6 @@ use Rattle.win_cert.specs.declared.lines.TheConstants.{MOST_NUMBER}
 use Rattle.win_cert.specs.declared.statements.Statement.{Statement}
 use Rattle.win_cert.specs.declared.statements.Statement.TheVariants.{Claim, Derivation}
 use Rattle.win_cert.proofs.CellSets.{cells_back}
-use Rattle.win_cert.proofs.Options.{leb_holds}
 use Rattle.win_cert.proofs.WordParts.{Words, cell_first, end_first, number_back, numbers_back}
 
 -- ---- from what is said to the words, and back
@@ -71,10 +71,10 @@ or_many_of v (i ∷ j ∷ k ∷ l ∷ rest) latest least most =
     let numbers : List ℕ = i ∷ j ∷ k ∷ l ∷ rest in
     let line = Some (Derivation (OrMany numbers)) in
     ap (λ b. cond (b && leb LEAST_MANY (length numbers) && leb (length numbers) MOST_CASES) line None)
-    (leb_holds THIRD_VERSION v latest)
+    (le-leb THIRD_VERSION v latest)
     ∙ ap (λ b. cond (b && leb (length numbers) MOST_CASES) line None)
-    (leb_holds LEAST_MANY (length numbers) least)
-    ∙ ap (λ b. cond b line None) (leb_holds (length numbers) MOST_CASES most)
+    (le-leb LEAST_MANY (length numbers) least)
+    ∙ ap (λ b. cond b line None) (le-leb (length numbers) MOST_CASES most)
 
 or_many_back : (v : ℕ) (numbers : List ℕ) → THIRD_VERSION ≤ v → LEAST_MANY ≤ length numbers
     → length numbers ≤ MOST_CASES → All (λ i. i ≤ MOST_NUMBER) numbers
@@ -98,9 +98,9 @@ cases_back numbers least most few =
     let test = λ (numbers : List ℕ). cond (leb LEAST_CASES (length numbers) && leb (length numbers) MOST_CASES) (Some (Derivation (Cases numbers))) None in
     ap (option_and_then test) (numbers_back numbers few)
     ∙ ap (λ b. cond (b && leb (length numbers) MOST_CASES) (Some (Derivation (Cases numbers))) None)
-    (leb_holds LEAST_CASES (length numbers) least)
+    (le-leb LEAST_CASES (length numbers) least)
     ∙ ap (λ b. cond b (Some (Derivation (Cases numbers))) None)
-    (leb_holds (length numbers) MOST_CASES most)
+    (le-leb (length numbers) MOST_CASES most)
 
 lift_back : (i : ℕ) → All (λ i. i ≤ MOST_NUMBER) (i ∷ [])
     → lift_in (decimal i ∷ []) ≡ Some (Derivation (Lift i))
@@ -136,21 +136,21 @@ step_back v n (Derivation (OrMany numbers)) size is
     ∙ or_many_back v numbers is.0 is.1 is.2 is.3
 step_back v n (Derivation (Put s)) size is
     = by_keyword v n (codes "put") (vertices_of n s) keyword.Put refl
-    (leb_holds SECOND_VERSION v is.0)
+    (le-leb SECOND_VERSION v is.0)
     ∙ ap (option_map (λ s. Derivation (Put s))) (cells_back n s size is.1)
 step_back v n (Derivation Done) size is = by_keyword v n (codes "done") [] keyword.Done refl
-    (leb_holds SECOND_VERSION v is)
+    (le-leb SECOND_VERSION v is)
 step_back v n (Derivation (Move k i)) size is
     = by_keyword v n (codes "move") (vertex_of n k ∷ decimal i ∷ []) keyword.Move refl
-    (leb_holds SECOND_VERSION v is.0)
+    (le-leb SECOND_VERSION v is.0)
     ∙ move_back n k i size is.1 is.2
 step_back v n (Derivation (Cases numbers)) size is
     = by_keyword v n (codes "cases") (map decimal numbers) keyword.Cases refl
-    (leb_holds SECOND_VERSION v is.0)
+    (le-leb SECOND_VERSION v is.0)
     ∙ cases_back numbers is.1 is.2 is.3
 step_back v n (Derivation (Lift i)) size is
     = by_keyword v n (codes "lift") (decimal i ∷ []) keyword.Lift refl
-    (leb_holds LATEST_VERSION v is.0)
+    (le-leb LATEST_VERSION v is.0)
     ∙ lift_back i is.1
 step_back v n (Claim Full i) size is
     = by_keyword v n (codes "full") (decimal i ∷ []) keyword.Full refl refl ∙ claim_back Full i is

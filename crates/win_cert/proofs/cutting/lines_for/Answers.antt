@@ -8,7 +8,7 @@ use Rattle.conn_store.proofs.RuleEntries.{stands}
 use Rattle.win_cert.specs.Cuts.{premises}
 use Rattle.win_cert.specs.Cutting.{AreLinesFor, IsLineFor}
 use Rattle.conn_store.specs.declared.entries.TheConstants.{MOST_ENTRIES}
-use Rattle.win_cert.proofs.CutDerivations.{longer, name_earlier}
+use Rattle.win_cert.proofs.CutDerivations.{longer, name_earlier, some_at}
 use Rattle.win_cert.proofs.CutWhole.{none_more, one_more}
 use Rattle.win_cert.proofs.cutting.lines_for.Goals as goal
 use Rattle.win_cert.proofs.cutting.lines_for.Goals.{then-marks-number+in_ok-push-2}
@@ -63,6 +63,7 @@ entries-preserved c =
     let long : vec_len c.entries.lines ≡ length now = omega (arith, c.entries.lines.ok) in
     let more : c.push.new.self.items ≡ renamed ++ length now ∷ [] = c.in_ok-push.ensures.items
     ∙ ap (λ v. renamed ++ v ∷ []) (c.len.ensures ∙ long) in
+    let next = some_at d.entries n (omega arith) in
     elim c.if-marks-number.branch [
       | then-marks-number+in_ok-push-2 w ↦
           let a = w.index-entries-number.result in
@@ -84,6 +85,6 @@ entries-preserved c =
         within = omega arith;
         lines = subst (λ v. AreLinesFor d marks (n + 1) v.items c.push.new.self.items) (sym w.lines-is)
             (subst (AreLinesFor d marks (n + 1) now) (sym more)
-            (none_more d marks n now renamed c.entries.invariant.lines w.if-marks-number.false));
+            (none_more d marks n now renamed next.0 c.entries.invariant.lines next.1 w.if-marks-number.false));
       }
     ]
