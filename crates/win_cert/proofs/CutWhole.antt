@@ -81,7 +81,7 @@ next_right d marks n lines renamed a line w s closed at known form =
     ∙ w.places j b lj (marked i z l) (taken_back d.entries n j b h)
     ∙ ap (λ v. Some (scoped v b)) (sym w.scope) in
     let ordered : AreOrdered from = λ i b h. (s.valid i b (taken_back d.entries n i b h)).order in
-    line_right cx more from a line ordered (s.valid n a at).order
+    line_right cx more from a line a.cause ordered (s.valid n a at).order
     (subst (λ b. FollowsFrom b from a) (sym same) (s.follows n a at))
     (subst (λ b. IsLineFor b more a a.cause line) (sym same) form) placed
 

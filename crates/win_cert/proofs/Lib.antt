@@ -11,7 +11,7 @@
 -- 4. proofs/GivenEntries and AcceptedLaw: all lines, and the claim.
 -- 5. That a line has no reason against it exactly if its rule of connection applies
 --    (src/rule_lines.rt, specs/RuleLines.antt): proofs/RuleLines, by CutSteps one way and
---    NamedEntries and Middles the other; ManyLines for an `or` of any number.
+--    NamedEntries and Middles the other; ManyLines for each `or`, of whatever number.
 --
 -- How to read the proof of `win_cert::read`, `written_text_is_read_back`: the text of a
 -- certificate.

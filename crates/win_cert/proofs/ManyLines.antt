@@ -148,11 +148,12 @@ many_means c numbers a others n h = let f = none_applies c (Derivation (OrMany n
 
 -- ---- the rule applies: no reason is against it
 
+in_order : (a : Entry) (x y : ℕ) → x < y → IsBetween a x y → (a.x ≡ x) × (a.y ≡ y)
+in_order a x y l q = let first : a.x ≡ min x y = q.0 in let second : a.y ≡ max x y = q.1 in
+    (omega arith, omega arith)
+
 differ : (a : Entry) (x y : ℕ) → x < y → IsBetween a x y → a.x ≡ a.y → ⊥
-differ a x y l q e =
-    let first : a.x ≡ min x y = q.0 in
-    let second : a.y ≡ max x y = q.1 in
-    absurd (omega arith)
+differ a x y l q e = let t = in_order a x y l q in absurd (omega (arith, t.0, t.1))
 
 one_taken : (s : Statement) (scope : ℕ) (a : Entry) (x y : ℕ) → kind_taken s ≡ Semi → x < y
     → a.kind ≡ Semi → IsBetween a x y → may_take s (Some (scoped scope a)) ≡ true
@@ -223,14 +224,6 @@ carriers_are s [] = refl
 carriers_are s (a ∷ ways)
     = ap (bit_or a.carrier) (carriers_are s ways) ∙ sym (union_more a ways)
 
-least_is : (a : Entry) (x y : ℕ) → x < y → IsBetween a x y → min a.x a.y ≡ x
-least_is a x y l q = let first : a.x ≡ min x y = q.0 in let second : a.y ≡ max x y = q.1 in
-    omega arith
-
-greatest_is : (a : Entry) (x y : ℕ) → x < y → IsBetween a x y → max a.x a.y ≡ y
-greatest_is a x y l q = let first : a.x ≡ min x y = q.0 in let second : a.y ≡ max x y = q.1 in
-    omega arith
-
 pub few_ways : (ways : List Entry) (x y n : ℕ) → OrRule ways x y → length ways ≡ n → n < 2 → ⊥
 few_ways ways x y n r h l = few r.number
   where
@@ -247,9 +240,12 @@ pub ways_right : (c : Context) (line : Line) (numbers : List ℕ) (ways : List E
 ways_right c line numbers [] r g reasons h l at rule k m
     = absurd (few_ways [] r.x r.y 0 rule refl (omega arith))
 ways_right c line numbers (a ∷ others) r g reasons h l at rule k m =
-    let first = All-head (λ (b : Entry). IsBetween b r.x r.y) a others rule.pairs in (
+    let t = in_order a r.x r.y l
+    (All-head (λ (b : Entry). IsBetween b r.x r.y) a others rule.pairs) in
+    let least : min a.x a.y ≡ r.x = omega (arith, t.0, t.1) in
+    let greatest : max a.x a.y ≡ r.y = omega (arith, t.0, t.1) in (
       g ∙ ap (or_entry c) (named_are c numbers (a ∷ others) at)
-          ∙ ap Some (same_entry r Full (min a.x a.y) (max a.x a.y) (carriers_of (map (scoped c.scope) (a ∷ others))) c.scope (sym k) (least_is a r.x r.y l first) (greatest_is a r.x r.y l first) (carriers_are c.scope (a ∷ others) ∙ sym m)),
+          ∙ ap Some (same_entry r Full (min a.x a.y) (max a.x a.y) (carriers_of (map (scoped c.scope) (a ∷ others))) c.scope (sym k) least greatest (carriers_are c.scope (a ∷ others) ∙ sym m)),
       reasons
           ∙ ways_clear c (Derivation line) numbers a others r.x r.y h l at rule.kinds rule.pairs rule.free,
     )

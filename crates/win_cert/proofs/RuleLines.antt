@@ -26,8 +26,9 @@ use Rattle.win_cert.specs.declared.reasons.Reason.TheVariants.{BadReference, Car
 use Rattle.win_cert.specs.declared.reasons.Reason.TheVariants.{CommonCell, EndInCarrier, EndsDiffer}
 use Rattle.win_cert.specs.declared.reasons.Reason.TheVariants.{MiddleKind, NoCommonMiddle}
 use Rattle.win_cert.specs.RuleLines.{AreNamed, IsClear, JoinOverCell, JoinOverGroup}
+use Rattle.win_cert.specs.declared.statements.Statement.{Statement}
 use Rattle.win_cert.specs.declared.statements.Statement.TheVariants.{Derivation}
-use Rattle.win_cert.specs.Statements.{is_cell_in}
+use Rattle.win_cert.specs.Statements.{is_cell_in, kind_taken}
 use Rattle.win_cert.specs.Statements.{may_take, share_cell}
 use Rattle.win_cert.specs.declared.lines.Line.TheVariants.{And, Key, Or2, Or3}
 use Rattle.win_cert.proofs.CutChains.{two_at}
@@ -121,111 +122,95 @@ some_cell (Some k) h = (k, refl)
 abbrev ends_meet : PlayerBoard → ScopedEntry → ScopedEntry → ℕ → Bool
 ends_meet e v w z = is_cell_in e (other_end v z) w.carrier || is_cell_in e (other_end w z) v.carrier
 
--- a test of two entries and their middle
-at_middle : (test : ScopedEntry → ScopedEntry → ℕ → Bool) (c : Context) (i j u : ℕ)
-    (v w : ScopedEntry) → entries_at c (i ∷ j ∷ []) ≡ v ∷ w ∷ [] → middle_of v w ≡ Some u
-    → holds_of_chain test (entries_at c (i ∷ j ∷ [])) ≡ test v w u
-at_middle test c i j u v w pair is = ap (holds_of_chain test) pair
-    ∙ ap (λ o. option_map_or (test v w) o false) is
-
 -- what both lines ask
-record IsChainLine (c : Context) (i j : ℕ) (a b : Entry) : Type 0 where
-  pub pair : entries_at c (i ∷ j ∷ []) ≡ scoped c.scope a ∷ scoped c.scope b ∷ []
+record IsChainLine (c : Context) (a b : Entry) : Type 0 where
   pub middle : ℕ
   pub is : middle_of (scoped c.scope a) (scoped c.scope b) ≡ Some middle
   pub rule : AndRule (elements_at c) a b (other_end (scoped c.scope a) middle) middle
       (other_end (scoped c.scope b) middle)
 
-chain_line : (c : Context) (i j : ℕ) (a b : Entry) → AreNamed c (i ∷ j ∷ []) (a ∷ b ∷ [])
-    → a.kind ≡ Full → b.kind ≡ Full
-    → not (holds_of_chain (λ v w z. true) (entries_at c (i ∷ j ∷ []))) ≡ false
-    → share_cell (entries_at c (i ∷ j ∷ [])) ≡ false
-    → holds_of_chain (ends_meet (elements_at c)) (entries_at c (i ∷ j ∷ [])) ≡ false
-    → IsChainLine c i j a b
-chain_line c i j a b n ka kb hm hs he =
-    let e = elements_at c in
-    let v = scoped c.scope a in
-    let w = scoped c.scope b in
-    let t = two_there c i j a b n.at in
-    let pair : entries_at c (i ∷ j ∷ []) ≡ v ∷ w ∷ [] = two_at c i j v w t.0 t.1 in
-    let va = All-head (IsValid e) a (b ∷ []) n.valid in
-    let vb = second_of (IsValid e) a b [] n.valid in
-    let m = some_middle (middle_of v w)
-    (ap (λ z. not (holds_of_chain (λ v w z. true) z)) (sym pair) ∙ hm) in
-    let free = none_in_all (v ∷ w ∷ [])
-    (λ k h. cell_small c a n.size va k (and_parts (has a.carrier k) (has b.carrier k && true) h).0) (ap share_cell (sym pair) ∙ hs) in
-    let ends = or_parts (is_cell_in e (other_end v m.0) b.carrier)
-    (is_cell_in e (other_end w m.0) a.carrier)
-    (sym (at_middle (ends_meet e) c i j m.0 v w pair m.1) ∙ he) in
-    record {
-      pair = pair;
-      middle = m.0;
-      is = m.1;
-      rule = record {
-        first_kind = ka;
-        second_kind = kb;
-        chain = chain_of a b c.scope m.0 va.order vb.order m.1;
-        apart = λ k h g. both_not (has a.carrier k) (has b.carrier k) (free k) h g;
-        first_end = misses_by e (other_end v m.0) b.carrier vb.empty ends.0;
-        second_end = misses_by e (other_end w m.0) a.carrier va.empty ends.1;
-      };
-    }
+module _ (c : Context) (i j : ℕ) (a b : Entry) (n : AreNamed c (i ∷ j ∷ []) (a ∷ b ∷ [])) where
+  named_pair : entries_at c (i ∷ j ∷ []) ≡ scoped c.scope a ∷ scoped c.scope b ∷ []
+  named_pair = let t = two_there c i j a b n.at in
+      two_at c i j (scoped c.scope a) (scoped c.scope b) t.0 t.1
 
-chain_at : (c : Context) (i j : ℕ) (a b : Entry) (x u y : ℕ) → AreNamed c (i ∷ j ∷ []) (a ∷ b ∷ [])
-    → AndRule (elements_at c) a b x u y → IsChainAt c i j a b x u y
-chain_at c i j a b x u y n r =
-    let t = two_there c i j a b n.at in
-    record {
-      first = t.0;
-      second = t.1;
-      first_order = (All-head (IsValid (elements_at c)) a (b ∷ []) n.valid).order;
-      second_order = (second_of (IsValid (elements_at c)) a b [] n.valid).order;
-      rule = r;
-    }
+  -- a test of the two entries and their middle
+  at_middle : (test : ScopedEntry → ScopedEntry → ℕ → Bool) (u : ℕ)
+      → middle_of (scoped c.scope a) (scoped c.scope b) ≡ Some u
+      → holds_of_chain test (entries_at c (i ∷ j ∷ [])) ≡ test (scoped c.scope a) (scoped c.scope b) u
+  at_middle test u is = ap (holds_of_chain test) named_pair
+      ∙ ap (λ o. option_map_or (test (scoped c.scope a) (scoped c.scope b)) o false) is
 
-pub and_means : (c : Context) (i j : ℕ) (a b : Entry) → AreNamed c (i ∷ j ∷ []) (a ∷ b ∷ [])
-    → IsClear c (And i j) → JoinOverGroup (elements_at c) a b
-and_means c i j a b n h =
-    let e = elements_at c in
-    let s = Derivation (And i j) in
-    let f = none_applies c s h in
-    let t = two_there c i j a b n.at in
-    let k = two_taken (may_take s (entry_at c i)) (may_take s (entry_at c j)) (f BadReference) in
-    let w = chain_line c i j a b n (taken_kind s a c.scope (entry_at c i) t.0 k.0)
-    (taken_kind s b c.scope (entry_at c j) t.1 k.1) (f NoCommonMiddle) (f CarriersMeet)
-    (f EndInCarrier) in (
-      other_end (scoped c.scope a) w.middle,
-      w.middle,
-      other_end (scoped c.scope b) w.middle,
-      w.rule,
-      is_group e w.middle
-          (sym (at_middle (λ v w z. is_some (cell_of e z)) c i j w.middle (scoped c.scope a) (scoped c.scope b) w.pair w.is) ∙ f MiddleKind),
-    )
+  chain_line : (s : Statement) → kind_taken s ≡ Full
+      → not (may_take s (entry_at c i) && (may_take s (entry_at c j) && true)) ≡ false
+      → not (holds_of_chain (λ v w z. true) (entries_at c (i ∷ j ∷ []))) ≡ false
+      → share_cell (entries_at c (i ∷ j ∷ [])) ≡ false
+      → holds_of_chain (ends_meet (elements_at c)) (entries_at c (i ∷ j ∷ [])) ≡ false
+      → IsChainLine c a b
+  chain_line s full ht hm hs he =
+      let e = elements_at c in
+      let v = scoped c.scope a in
+      let w = scoped c.scope b in
+      let t = two_there c i j a b n.at in
+      let k = two_taken (may_take s (entry_at c i)) (may_take s (entry_at c j)) ht in
+      let va = All-head (IsValid e) a (b ∷ []) n.valid in
+      let vb = second_of (IsValid e) a b [] n.valid in
+      let m = some_middle (middle_of v w)
+      (ap (λ z. not (holds_of_chain (λ v w z. true) z)) (sym named_pair) ∙ hm) in
+      let free = none_in_all (v ∷ w ∷ [])
+      (λ k h. cell_small c a n.size va k (and_parts (has a.carrier k) (has b.carrier k && true) h).0) (ap share_cell (sym named_pair) ∙ hs) in
+      let ends = or_parts (is_cell_in e (other_end v m.0) b.carrier)
+      (is_cell_in e (other_end w m.0) a.carrier) (sym (at_middle (ends_meet e) m.0 m.1) ∙ he) in
+      record {
+        middle = m.0;
+        is = m.1;
+        rule = record {
+          first_kind = taken_kind s a c.scope (entry_at c i) t.0 k.0 ∙ full;
+          second_kind = taken_kind s b c.scope (entry_at c j) t.1 k.1 ∙ full;
+          chain = chain_of a b c.scope m.0 va.order vb.order m.1;
+          apart = λ k h g. both_not (has a.carrier k) (has b.carrier k) (free k) h g;
+          first_end = misses_by e (other_end v m.0) b.carrier vb.empty ends.0;
+          second_end = misses_by e (other_end w m.0) a.carrier va.empty ends.1;
+        };
+      }
 
-pub and_clear : (c : Context) (i j : ℕ) (a b : Entry) → AreNamed c (i ∷ j ∷ []) (a ∷ b ∷ [])
-    → JoinOverGroup (elements_at c) a b → IsClear c (And i j)
-and_clear c i j a b n (x, u, y, r, g) =
-    (and_right c i j a b x u y (chain_at c i j a b x u y n r) (record { kind = Full; x = min x y; y = max x y; carrier = both_of a b; cause = Adjacent }) g (refl, refl) refl refl).1
+  chain_at : (x u y : ℕ) → AndRule (elements_at c) a b x u y → IsChainAt c i j a b x u y
+  chain_at x u y r =
+      let t = two_there c i j a b n.at in
+      record {
+        first = t.0;
+        second = t.1;
+        first_order = (All-head (IsValid (elements_at c)) a (b ∷ []) n.valid).order;
+        second_order = (second_of (IsValid (elements_at c)) a b [] n.valid).order;
+        rule = r;
+      }
 
-pub key_means : (c : Context) (i j : ℕ) (a b : Entry) → AreNamed c (i ∷ j ∷ []) (a ∷ b ∷ [])
-    → IsClear c (Key i j) → JoinOverCell (elements_at c) a b
-key_means c i j a b n h =
-    let e = elements_at c in
-    let s = Derivation (Key i j) in
-    let f = none_applies c s h in
-    let t = two_there c i j a b n.at in
-    let k = two_taken (may_take s (entry_at c i)) (may_take s (entry_at c j)) (f BadReference) in
-    let w = chain_line c i j a b n (taken_kind s a c.scope (entry_at c i) t.0 k.0)
-    (taken_kind s b c.scope (entry_at c j) t.1 k.1) (f NoCommonMiddle) (f CarriersMeet)
-    (f EndInCarrier) in
-    let q = some_cell (cell_of e w.middle)
-    (sym (at_middle (λ v w z. is_none (cell_of e z)) c i j w.middle (scoped c.scope a) (scoped c.scope b) w.pair w.is) ∙ f MiddleKind) in
-    (other_end (scoped c.scope a) w.middle, w.middle, other_end (scoped c.scope b) w.middle, q.0, w.rule, is_cell e w.middle q.0 q.1)
+  pub and_means : IsClear c (And i j) → JoinOverGroup (elements_at c) a b
+  and_means h =
+      let e = elements_at c in
+      let f = none_applies c (Derivation (And i j)) h in
+      let w = chain_line (Derivation (And i j)) refl (f BadReference)
+      (f NoCommonMiddle) (f CarriersMeet) (f EndInCarrier) in
+      let g = sym (at_middle (λ v w z. is_some (cell_of e z)) w.middle w.is) ∙ f MiddleKind in
+      (other_end (scoped c.scope a) w.middle, w.middle, other_end (scoped c.scope b) w.middle, w.rule, is_group e w.middle g)
 
-pub key_clear : (c : Context) (i j : ℕ) (a b : Entry) → AreNamed c (i ∷ j ∷ []) (a ∷ b ∷ [])
-    → JoinOverCell (elements_at c) a b → IsClear c (Key i j)
-key_clear c i j a b n (x, u, y, k, r, g) =
-    (key_right c i j a b x u y (chain_at c i j a b x u y n r) (record { kind = Semi; x = min x y; y = max x y; carrier = with_cell (both_of a b) k; cause = Adjacent }) k g (refl, refl) refl refl).1
+  pub and_clear : JoinOverGroup (elements_at c) a b → IsClear c (And i j)
+  and_clear (x, u, y, r, g) =
+      (and_right c i j a b x u y (chain_at x u y r) (record { kind = Full; x = min x y; y = max x y; carrier = both_of a b; cause = Adjacent }) g (refl, refl) refl refl).1
+
+  pub key_means : IsClear c (Key i j) → JoinOverCell (elements_at c) a b
+  key_means h =
+      let e = elements_at c in
+      let f = none_applies c (Derivation (Key i j)) h in
+      let w = chain_line (Derivation (Key i j)) refl (f BadReference)
+      (f NoCommonMiddle) (f CarriersMeet) (f EndInCarrier) in
+      let q = some_cell (cell_of e w.middle)
+      (sym (at_middle (λ v w z. is_none (cell_of e z)) w.middle w.is) ∙ f MiddleKind) in
+      (other_end (scoped c.scope a) w.middle, w.middle, other_end (scoped c.scope b) w.middle, q.0, w.rule, is_cell e w.middle q.0 q.1)
+
+  pub key_clear : JoinOverCell (elements_at c) a b → IsClear c (Key i j)
+  key_clear (x, u, y, k, r, g) =
+      (key_right c i j a b x u y (chain_at x u y r) (record { kind = Semi; x = min x y; y = max x y; carrier = with_cell (both_of a b) k; cause = Adjacent }) k g (refl, refl) refl refl).1
 
 -- ---- `or`
 

@@ -1,5 +1,5 @@
 -- The certificate of the lines is accepted.
-use Rattle.std.proofs.Common.{◌≡◌, ℕ, sym, ◌∙◌, ap, subst, refl}
+use Rattle.std.proofs.Common.{◌≡◌, ℕ, get_or, sym, ◌∙◌, ap, subst, refl}
 use Rattle.std.specs.List.{slice_get}
 use Rattle.std.proofs.lemmas.Option.{get_or_from_slice_get}
 use Rattle.conn_store.specs.Stores.{StoreData}
@@ -14,24 +14,19 @@ pub marked-requires-clause-earlier : goal.marked-requires-clause-earlier
 marked-requires-clause-earlier c = subst NameEarlier (sym c.entries.ensures.value)
     (name_earlier c.store-store.result.now c.entries.ensures.sound)
 
-pub returns-clause-certifies : goal.returns-clause-certifies
-returns-clause-certifies c = λ a h.
+pub returns : goal.returns
+returns c =
     let r = c.args.report.now in
     let n : ℕ = c.args.entry in
     let d = c.store-store.result.now in
     let same : d ≡ r = c.store-store.ensures.value in
-    let all = c.entries-2.ensures.value ∙ ap (λ (d : StoreData). d.entries) same in
-    certified r n c.deref.result.now a _
-    (cut_of d r n c.deref.result.now c.in_ok-lines.numbers.items _ same c.requires c.board.ensures c.colour.ensures c.of.ensures c.entries.ensures.value c.entries.ensures.few c.in_ok-marks.ensures c.deref.ensures.value c.in_ok-lines.ensures c.index.ensures) h refl
-    (ap (λ e. e.kind) (get_or_from_slice_get c.entries-2.result.now n a c.index-entries-entry.result
-    (ap (λ es. slice_get es n) all ∙ h.0)))
-
-pub returns-clause-lines : goal.returns-clause-lines
-returns-clause-lines c =
-    let r = c.args.report.now in
-    let n : ℕ = c.args.entry in
-    let d = c.store-store.result.now in
-    let claim = c.index-entries-entry.result.kind in
+    let claim = (get_or c.entries-2.result.now n c.index-entries-entry.result).kind in
     let cert : Cert = record { version = FIRST_VERSION; board = c.board.result.now; player = c.colour.result; lines = c.of.result; claim = claim; entry = c.index.result.now } in
-    has_lines r n c.deref.result.now cert
-    (cut_of d r n c.deref.result.now c.in_ok-lines.numbers.items cert c.store-store.ensures.value c.requires c.board.ensures c.colour.ensures c.of.ensures c.entries.ensures.value c.entries.ensures.few c.in_ok-marks.ensures c.deref.ensures.value c.in_ok-lines.ensures c.index.ensures)
+    let cut = cut_of d r n c.deref.result.now c.in_ok-lines.numbers.items cert same c.requires c.board.ensures c.colour.ensures c.of.ensures c.entries.ensures.value c.entries.ensures.few c.in_ok-marks.ensures c.deref.ensures.value c.in_ok-lines.ensures c.index.ensures in
+    let all = c.entries-2.ensures.value ∙ ap (λ (d : StoreData). d.entries) same in
+    record {
+      certifies = λ a h. certified r n c.deref.result.now a cert cut h refl
+          (ap (λ e. e.kind) (get_or_from_slice_get c.entries-2.result.now n a c.index-entries-entry.result
+          (ap (λ es. slice_get es n) all ∙ h.0)));
+      lines = has_lines r n c.deref.result.now cert cut;
+    }
