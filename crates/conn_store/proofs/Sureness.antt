@@ -61,7 +61,8 @@ sure_more (suc n) (suc m) Full G H s t c d l i j f (inr (w, g)) = inr (
     | inl o ↦ sure_more n m Semi G H s t (without_cell c k) (without_cell d k) (omega arith) i
         (without_both c d k j) f (g k o)
     | inr o ↦ sure_more n m Semi G H s t (without_cell c w.0) (without_cell d k) (omega arith) i
-        (λ q r. without_keeps d k q (j q (in_without c w.0 q r).0) (λ e. both_ways (has c k) o (subst (λ v. has c v ≡ true) e (in_without c w.0 q r).0))) f (g w.0 w.1)
+        (λ q r. without_keeps d k q (j q (in_without c w.0 q r).0)
+        (λ e. both_ways (has c k) o (subst (λ v. has c v ≡ true) e (in_without c w.0 q r).0))) f (g w.0 w.1)
   ],
 )
 sure_more (suc n) (suc m) Semi G H s t c d l i j f (inl g) = inl (f s t (λ k h. h) i g)

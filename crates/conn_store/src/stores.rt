@@ -128,7 +128,8 @@ impl Store {
         Put::Added(self.append(entry))
     }
 
-    // Puts the entry, of whose kind its pair has less than most, at the end, and answers its number.
+    // Puts the entry, of whose kind its pair has less than most, at the end, and answers its
+    // number.
     fn append(&mut self, entry: Entry) -> u32
         requires valid { IsValid self.old.elements entry }
         requires follows { FollowsFrom self.old.elements self.old.entries entry }

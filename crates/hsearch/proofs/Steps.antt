@@ -243,7 +243,8 @@ joined_more d f g n u list p j e l k w s =
     record {
       grown = grown_on d f g j.grown e;
       done = below_more (λ q. IsAndSettledOver g n (get_or list q 0) u) p
-          (λ q b. over_stays f g n (get_or list q 0) u e (omega arith) (let z : get_or list q 0 < length d.entries = w (get_or list q 0) (at_place list q (omega arith)) in omega arith) (j.done q b)) s;
+          (λ q b. over_stays f g n (get_or list q 0) u e (omega arith)
+          (let z : get_or list q 0 < length d.entries = w (get_or list q 0) (at_place list q (omega arith)) in omega arith) (j.done q b)) s;
     }
 
 -- all numbers of the list were gone through
@@ -323,8 +324,10 @@ chosen_more d f taken n h p a g l w m two three = record {
       (λ q. IsMarked taken (get_or h.at q 0) → IsOrSettled f (n ∷ get_or h.at q 0 ∷ [])) p
       (λ q b k. chosen_stays d f (n ∷ get_or h.at q 0 ∷ []) g (l, (w q (omega arith), tt)) (a.twos q b k)) (λ k. two);
   threes = λ q r b o i j. below_more
-      (λ z. z ≤ p → (v : ℕ) → v < z → IsMarked taken (get_or h.at z 0) → IsMarked taken (get_or h.at v 0) → IsOrSettled f (n ∷ get_or h.at z 0 ∷ get_or h.at v 0 ∷ [])) p
-      (λ z b o v k s t. chosen_stays d f (n ∷ get_or h.at z 0 ∷ get_or h.at v 0 ∷ []) g (l, (w z (omega arith), (w v (omega arith), tt))) (a.threes z v b k s t))
+      (λ z. z ≤ p → (v : ℕ) → v < z → IsMarked taken (get_or h.at z 0) → IsMarked taken (get_or h.at v 0)
+      → IsOrSettled f (n ∷ get_or h.at z 0 ∷ get_or h.at v 0 ∷ [])) p
+      (λ z b o v k s t. chosen_stays d f (n ∷ get_or h.at z 0 ∷ get_or h.at v 0 ∷ []) g
+      (l, (w z (omega arith), (w v (omega arith), tt))) (a.threes z v b k s t))
       (λ o v k s t. three v k t) q b (omega arith) r o i j;
 }
 
@@ -336,7 +339,8 @@ chosen_none d taken n h p a w = record {
       (λ q. IsMarked taken (get_or h.at q 0) → IsOrSettled d (n ∷ get_or h.at q 0 ∷ [])) p
       (λ q b k. a.twos q b k) (λ k. absurd (w k));
   threes = λ q r b o i j. below_more
-      (λ z. z ≤ p → (v : ℕ) → v < z → IsMarked taken (get_or h.at z 0) → IsMarked taken (get_or h.at v 0) → IsOrSettled d (n ∷ get_or h.at z 0 ∷ get_or h.at v 0 ∷ [])) p
+      (λ z. z ≤ p → (v : ℕ) → v < z → IsMarked taken (get_or h.at z 0) → IsMarked taken (get_or h.at v 0)
+      → IsOrSettled d (n ∷ get_or h.at z 0 ∷ get_or h.at v 0 ∷ [])) p
       (λ z b o v k s t. a.threes z v b k s t) (λ o v k s t. absurd (w s)) q b (omega arith) r o i j;
 }
 
@@ -373,7 +377,8 @@ thirds_more d f g taken n i h p a e l m w s =
       two = chosen_stays f g (n ∷ i ∷ []) e (omega arith, (omega arith, tt)) a.two;
       threes = below_more
           (λ q. IsMarked taken (get_or h.at q 0) → IsOrSettled g (n ∷ i ∷ get_or h.at q 0 ∷ [])) p
-          (λ q b o. let z : get_or h.at q 0 < length d.entries = w q b in chosen_stays f g (n ∷ i ∷ get_or h.at q 0 ∷ []) e (omega arith, (omega arith, (omega arith, tt))) (a.threes q b o)) (λ o. s);
+          (λ q b o. let z : get_or h.at q 0 < length d.entries = w q b in chosen_stays f g
+          (n ∷ i ∷ get_or h.at q 0 ∷ []) e (omega arith, (omega arith, (omega arith, tt))) (a.threes q b o)) (λ o. s);
     }
 
 pub thirds_none : (d f : StoreData) (taken : List Bool) (n i : ℕ) (h : Held) (p : ℕ)
@@ -430,10 +435,12 @@ chosen_three d f taken n x y h e g l o done i j m k t_i t_j ways v w at r =
           let bc : t.1 ≡ t.2
           = same_Some t.1 t.2 (sym t.5 ∙ (ap (λ p. slice_get f.entries p) ij ∙ t.6)) in
           subst (λ (z : Entry). SettlesOr f (t.0 ∷ t.1 ∷ z ∷ []) v w) bc
-          (way_twice f t.0 t.1 v w (subst (λ p. IsOrSettled f (n ∷ p ∷ [])) b_at.2 (done.twos b_at.0 b_at.1 b_in) (t.0 ∷ t.1 ∷ []) v w (at_two f.entries n i t.0 t.1 t.4 t.5)))
+          (way_twice f t.0 t.1 v w
+          (subst (λ p. IsOrSettled f (n ∷ p ∷ [])) b_at.2 (done.twos b_at.0 b_at.1 b_in) (t.0 ∷ t.1 ∷ []) v w (at_two f.entries n i t.0 t.1 t.4 t.5)))
       | inr other ↦ elim other [
         | inl less ↦ swapped_last f t.0 t.1 t.2 v w
-            (subst (λ p. IsOrSettled f (n ∷ p ∷ i ∷ [])) c_at.2 (subst (λ p. IsOrSettled f (n ∷ get_or h.at c_at.0 0 ∷ p ∷ [])) b_at.2 (done.threes c_at.0 b_at.0 c_at.1 less c_in b_in))
+            (subst (λ p. IsOrSettled f (n ∷ p ∷ i ∷ [])) c_at.2
+            (subst (λ p. IsOrSettled f (n ∷ get_or h.at c_at.0 0 ∷ p ∷ [])) b_at.2 (done.threes c_at.0 b_at.0 c_at.1 less c_in b_in))
             (t.0 ∷ t.2 ∷ t.1 ∷ []) v w (at_three f.entries n j i t.0 t.2 t.1 t.4 t.6 t.5))
         | inr more ↦ subst (λ p. IsOrSettled f (n ∷ p ∷ j ∷ [])) b_at.2
             (subst (λ p. IsOrSettled f (n ∷ get_or h.at b_at.0 0 ∷ p ∷ [])) c_at.2 (done.threes b_at.0 c_at.0 b_at.1 more b_in c_in))
@@ -494,7 +501,8 @@ combined_full d f taken lists n a g l h k all over_x over_y = record {
 pub combined_semi : (d f : StoreData) (taken : List Bool) (n : ℕ) (a : Entry) → Extends d f
     → n < length d.entries → slice_get d.entries n ≡ Some a → a.kind ≡ Semi
     → ((i : ℕ) → i < length d.entries → IsMarked taken i → IsOrSettled f (n ∷ i ∷ []))
-    → ((i j : ℕ) → i < length d.entries → j < length d.entries → IsMarked taken i → IsMarked taken j → IsOrSettled f (n ∷ i ∷ j ∷ [])) → IsCombined f (length d.entries) taken n
+    → ((i j : ℕ) → i < length d.entries → j < length d.entries → IsMarked taken i → IsMarked taken j
+    → IsOrSettled f (n ∷ i ∷ j ∷ [])) → IsCombined f (length d.entries) taken n
 combined_semi d f taken n a g l h k twos threes = record {
   ands = λ i m t b c x u y at r z.
       let q : b ≡ a

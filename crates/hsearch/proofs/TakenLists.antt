@@ -156,7 +156,8 @@ none_below_more f lists k q n l e u i m c =
     let d : Contains (get_or (set (map f lists) k (f q)) u []) i
     = subst (λ v. Contains (get_or v u []) i) w c in
     elim (cases_eq u k) [
-      | inl z ↦ contains_none i (subst (λ v. Contains v i) (ap (λ y. get_or (set (map f lists) k (f q)) y []) z ∙ (get_or-set_same (map f lists) k (f q) [] (omega arith) ∙ e)) d)
+      | inl z ↦ contains_none i
+          (subst (λ v. Contains v i) (ap (λ y. get_or (set (map f lists) k (f q)) y []) z ∙ (get_or-set_same (map f lists) k (f q) [] (omega arith) ∙ e)) d)
       | inr z ↦ n u i (omega arith) (subst (λ v. Contains v i) (get_or-set_other (map f lists) k u (f q) [] z) d)
     ]
 

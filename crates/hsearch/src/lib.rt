@@ -21,8 +21,8 @@
 //!
 //! **What is only tested, or not said.** That [`connect`] and [`Report::again`] get their memory,
 //! and make reports with the same entries in the same order; that they take small carriers first,
-//! and their speed; which entries a report has beyond what closed says. H-search does not find every
-//! connection.
+//! and their speed; which entries a report has beyond what closed says. H-search does not find
+//! every connection.
 //!
 //! **Limits.** Those of `conn_store`. Only [`connect`] and [`Report::again`] take memory.
 //!

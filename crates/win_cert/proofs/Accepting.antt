@@ -70,8 +70,10 @@ claim_right c kind i d g =
     ∙ told_next (is_bad_reference c s) BadReference _
     (ap (λ o. not (may_take s o && true)) g.at ∙ bad_one (same_kind a.kind kind && true)
     (and_from (same_kind a.kind kind) true (ap (λ v. same_kind v kind) g.kind_is ∙ kinds_match kind) refl))
-    (told_next (is_wrong_scope c s) WrongScope _ (ap (λ o. not (list_all (λ v. v.scope == 0) (cons_option o []))) g.at ∙ bad_one (a.scope == 0) (eq-eqb a.scope 0 g.scope_is))
-    (told_next (is_no_edge_entry c s) NotEdges _ (ap (λ o. not (list_all (is_edge_entry c.base) (cons_option o []))) g.at ∙ bad_one (is_edge_entry c.base a) g.edges) refl))
+    (told_next (is_wrong_scope c s) WrongScope _
+    (ap (λ o. not (list_all (λ v. v.scope == 0) (cons_option o []))) g.at ∙ bad_one (a.scope == 0) (eq-eqb a.scope 0 g.scope_is))
+    (told_next (is_no_edge_entry c s) NotEdges _
+    (ap (λ o. not (list_all (is_edge_entry c.base) (cons_option o []))) g.at ∙ bad_one (is_edge_entry c.base a) g.edges) refl))
 
 -- ---- the verdict
 

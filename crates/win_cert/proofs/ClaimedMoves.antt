@@ -62,9 +62,14 @@ given_at cert n line (suc m) e l =
       | inl t ↦ at_left (entries_below cert m) (y ∷ []) n (gives (context_at cert n) line)
           (given_at cert n line m e (ltb-true n m t))
       | inr t ↦ let q = ltb-false n m t in let same : m ≡ n = omega (arith, l, q) in
-          subst (λ v. slice_get (entries_below cert v ++ option_and_then (gives (context_at cert v)) (slice_get cert.lines v) ∷ []) n ≡ Some (gives (context_at cert n) line)) (sym same)
-          (subst (λ v. slice_get (entries_below cert n ++ option_and_then (gives (context_at cert n)) (slice_get cert.lines n) ∷ []) v ≡ Some (gives (context_at cert n) line)) (below_count cert n)
-          (last_at (entries_below cert n) (option_and_then (gives (context_at cert n)) (slice_get cert.lines n)) ∙ ap (λ o. Some (option_and_then (gives (context_at cert n)) o)) e))
+          subst
+          (λ v. slice_get (entries_below cert v ++ option_and_then (gives (context_at cert v)) (slice_get cert.lines v) ∷ []) n
+          ≡ Some (gives (context_at cert n) line)) (sym same)
+          (subst
+          (λ v. slice_get (entries_below cert n ++ option_and_then (gives (context_at cert n)) (slice_get cert.lines n) ∷ []) v
+          ≡ Some (gives (context_at cert n) line)) (below_count cert n)
+          (last_at (entries_below cert n) (option_and_then (gives (context_at cert n)) (slice_get cert.lines n))
+          ∙ ap (λ o. Some (option_and_then (gives (context_at cert n)) o)) e))
     ]
 
 -- ---- the claimed line lies in the empty scope
@@ -102,7 +107,8 @@ scope_wins : (base : PlayerBoard) (k c : ℕ)
 scope_wins base k c g =
     let e = elements_in base (with_cell 0 k) in
     subst (λ p. Wins base.player p (other_of base.player)) (scope_placed base.board base.player k)
-    (sure_wins (members c 121) Full base.player e.board (StonesLink e (edge_element e false) (edge_element e true)) (stones_of e.board base.player) c refl g.empty
+    (sure_wins (members c 121) Full base.player e.board
+    (StonesLink e (edge_element e false) (edge_element e true)) (stones_of e.board base.player) c refl g.empty
     (λ t i l. links_join e t i l) g.holds)
 
 -- ---- the line itself

@@ -120,7 +120,14 @@ certified d n marks a cert w h v k =
       board = w.board;
       player = w.player;
       verdict = subst (λ z. IsVerdict cert (Yes z a.carrier)) k
-          (accepted cert a.carrier clear (record { entry = scoped 0 a; at = claimed d n marks a cert w h.0; kind_is = sym k; scope_is = refl; edges = edges; carrier_is = refl }));
+          (accepted cert a.carrier clear (record {
+            entry = scoped 0 a;
+            at = claimed d n marks a cert w h.0;
+            kind_is = sym k;
+            scope_is = refl;
+            edges = edges;
+            carrier_is = refl;
+          }));
       writable = (
         record {
           version = inl v;

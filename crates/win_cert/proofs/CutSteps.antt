@@ -74,7 +74,8 @@ chain_clear : (p q r s t u : Bool) → p ≡ false → q ≡ false → r ≡ fal
     (told q WrongScope (told r NoCommonMiddle (told s CarriersMeet (told t EndInCarrier (told u MiddleKind None))))) ≡ None
 chain_clear p q r s t u a b c d e f
     = told_next p BadReference _ a
-    (told_next q WrongScope _ b (told_next r NoCommonMiddle _ c (told_next s CarriersMeet _ d (told_next t EndInCarrier _ e (told_next u MiddleKind _ f refl)))))
+    (told_next q WrongScope _ b
+    (told_next r NoCommonMiddle _ c (told_next s CarriersMeet _ d (told_next t EndInCarrier _ e (told_next u MiddleKind _ f refl)))))
 
 -- ---- the entry that is given
 
@@ -249,7 +250,9 @@ module _ (c : Context) (i j : ℕ) (a b : Entry) (x u y : ℕ) (w : IsChainAt c 
             ∙ ap (option_map (f u)) (cell_is d u k g)
             ∙ ap (λ v. Some (entry_between c Semi v (other_end (scoped c.scope b) u) (with_cell all k))) chain_first
             ∙ ap (λ v. Some (entry_between c Semi x v (with_cell all k))) chain_second
-            ∙ ap Some (same_entry r Semi (min x y) (max x y) (with_cell all k) c.scope (sym n) (sym h.0) (sym h.1) (ap (λ v. with_cell (bit_or a.carrier v) k) (or_zero_r b.carrier) ∙ sym m)),
+            ∙ ap Some
+            (same_entry r Semi (min x y) (max x y) (with_cell all k) c.scope (sym n) (sym h.0) (sym h.1)
+            (ap (λ v. with_cell (bit_or a.carrier v) k) (or_zero_r b.carrier) ∙ sym m)),
         key_reasons c i j ∙ chain_clear (is_bad_reference c s) (is_wrong_scope c s)
             (has_no_middle c s) (do_carriers_meet c s) (is_end_in_carrier c s) (is_middle_wrong c s)
             (chain_taken s refl) chain_scope (ap not (holds_is (λ v w z. true))) chain_apart

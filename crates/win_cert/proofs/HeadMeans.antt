@@ -223,5 +223,8 @@ head_means lines p e =
       };
     } in
     let whole : lines ≡ head_lines head ++ w.0.1 =
-    v_line.is ∙ (λ i. version.is i ∷ (n_line.is ∙ (λ i. size.is i ∷ (c_line.is ∙ (λ i. player i ∷ (b_line.is ∙ (λ i. black.is i ∷ (w_line.is ∙ (λ i. white.is i ∷ w.0.1)) i)) i)) i)) i) in
+    v_line.is
+    ∙ (λ i. version.is i ∷
+    (n_line.is
+    ∙ (λ i. size.is i ∷ (c_line.is ∙ (λ i. player i ∷ (b_line.is ∙ (λ i. black.is i ∷ (w_line.is ∙ (λ i. white.is i ∷ w.0.1)) i)) i)) i)) i) in
     subst (λ (q : Head × TextLines). IsHead q.0 × (lines ≡ head_lines q.0 ++ q.1)) is (good, whole)

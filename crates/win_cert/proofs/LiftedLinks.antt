@@ -68,7 +68,9 @@ inside_way e x P (at_cell a) q on f g h i = elim (own_cell e x a on h) [
   | inl z ↦ subst (λ v. Way e.board.size e.player P (at_cell a) v) (sym (only_place e x a q on z h i))
       ([], g a h, refl)
   | inr o ↦ way_as e P (at_cell a) q f
-      (group_way e x (at_cell a) q on (λ k z j. both_ways (is_empty_at e.board k) (stone_full e.board e.player k (subst (λ v. has (stones_of e.board e.player) v ≡ true) (sym (empty_alone e x k a on z j h)) o)) z) h i)
+      (group_way e x (at_cell a) q on
+      (λ k z j. both_ways (is_empty_at e.board k)
+      (stone_full e.board e.player k (subst (λ v. has (stones_of e.board e.player) v ≡ true) (sym (empty_alone e x k a on z j h)) o)) z) h i)
 ]
 
 -- ---- on the other board

@@ -203,7 +203,8 @@ ways_clear c s numbers a others x y h l at kinds pairs free =
     (not (have_same_ends (entries_at c numbers))) (share_cell (entries_at c numbers))
     (ap not (all_taken c s numbers all at ∙ each_taken s c.scope x y all h l kinds pairs))
     (ap not (ap (list_all (λ e. e.scope == c.scope)) named ∙ in_scope c.scope all))
-    (ap not (ap have_same_ends named ∙ list_all-map (same_ends (scoped c.scope a)) (scoped c.scope) others ∙ are_alike a x y others (All-head (λ (b : Entry). IsBetween b x y) a others pairs) (All-tail (λ (b : Entry). IsBetween b x y) a others pairs)))
+    (ap not (ap have_same_ends named ∙ list_all-map (same_ends (scoped c.scope a)) (scoped c.scope) others
+    ∙ are_alike a x y others (All-head (λ (b : Entry). IsBetween b x y) a others pairs) (All-tail (λ (b : Entry). IsBetween b x y) a others pairs)))
     (ap share_cell named ∙ none_shared (map (scoped c.scope) all) (λ k. list_all-map (λ (w : ScopedEntry). has w.carrier k) (scoped c.scope) all ∙ free k))
 
 pub many_clear : (c : Context) (numbers : List ℕ) (a : Entry) (others : List Entry)
@@ -245,7 +246,9 @@ ways_right c line numbers (a ∷ others) r g reasons h l at rule k m =
     let least : min a.x a.y ≡ r.x = omega (arith, t.0, t.1) in
     let greatest : max a.x a.y ≡ r.y = omega (arith, t.0, t.1) in (
       g ∙ ap (or_entry c) (named_are c numbers (a ∷ others) at)
-          ∙ ap Some (same_entry r Full (min a.x a.y) (max a.x a.y) (carriers_of (map (scoped c.scope) (a ∷ others))) c.scope (sym k) least greatest (carriers_are c.scope (a ∷ others) ∙ sym m)),
+          ∙ ap Some
+          (same_entry r Full (min a.x a.y) (max a.x a.y) (carriers_of (map (scoped c.scope) (a ∷ others)))
+          c.scope (sym k) least greatest (carriers_are c.scope (a ∷ others) ∙ sym m)),
       reasons
           ∙ ways_clear c (Derivation line) numbers a others r.x r.y h l at rule.kinds rule.pairs rule.free,
     )

@@ -70,7 +70,8 @@ sure_stones (suc n) Full G s t c d f i j (inr (w, g)) =
           | inl o ↦ sure_stones n Semi G s t (without_cell c k) (without_cell d k) f i
               (covered_both c k t d j) (g k o)
           | inr o ↦ sure_stones n Semi G s t (without_cell c w.0) (without_cell d k) f i
-              (covered_out (without_cell c w.0) k t d (false_from_ne_true (has (without_cell c w.0) k) (λ p. both_ways (has c k) o (without_inside c w.0 k p))) (covered_less c w.0 t d j))
+              (covered_out (without_cell c w.0) k t d
+              (false_from_ne_true (has (without_cell c w.0) k) (λ p. both_ways (has c k) o (without_inside c w.0 k p))) (covered_less c w.0 t d j))
               (g w.0 w.1)
         ],
       )

@@ -108,7 +108,8 @@ head_back head rest some good =
     let size_line = codes "size" ∷ decimal n ∷ [] in
     let more : (words : Words) (lines : TextLines) → words ∷ lines ≢ [] = λ words lines e. cc in
     then_back 1 _ (head.version, size_line ∷ player_line ∷ black_line ∷ white_line ∷ rest) _
-    (line_back version_in (codes "hexcert" ∷ decimal head.version ∷ []) head.version (size_line ∷ player_line ∷ black_line ∷ white_line ∷ rest) (more size_line _)
+    (line_back version_in (codes "hexcert" ∷ decimal head.version ∷ []) head.version
+    (size_line ∷ player_line ∷ black_line ∷ white_line ∷ rest) (more size_line _)
     (number_after_back (codes "hexcert") FIRST_VERSION LATEST_VERSION head.version v.0 v.1 (let h = v.1 in omega (arith, h))))
     ∙ then_back 2 _ (n, player_line ∷ black_line ∷ white_line ∷ rest) _
     (line_back size_in size_line n (player_line ∷ black_line ∷ white_line ∷ rest) (more player_line _)

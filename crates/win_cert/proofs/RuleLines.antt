@@ -14,6 +14,7 @@ use Rattle.conn_store.specs.Entries.{IsBetween, IsValid}
 use Rattle.conn_store.specs.Rules.{AndRule, IsChain, OrRule, both_of}
 use Rattle.conn_store.specs.declared.entries.Cause.TheVariants.{Adjacent}
 use Rattle.conn_store.specs.declared.entries.Entry.{Entry}
+use Rattle.conn_store.specs.declared.entries.Kind.{Kind}
 use Rattle.conn_store.specs.declared.entries.Kind.TheVariants.{Full, Semi}
 use Rattle.conn_store.proofs.RuleEntries.{both_not}
 use Rattle.conn_store.proofs.RuleTruth.{second_of}
@@ -122,6 +123,10 @@ some_cell (Some k) h = (k, refl)
 abbrev ends_meet : PlayerBoard → ScopedEntry → ScopedEntry → ℕ → Bool
 ends_meet e v w z = is_cell_in e (other_end v z) w.carrier || is_cell_in e (other_end w z) v.carrier
 
+-- an entry that a rule may give
+abbrev entry_of : Kind → ℕ → ℕ → ℕ → Entry
+entry_of kind x y c = record { kind = kind; x = min x y; y = max x y; carrier = c; cause = Adjacent }
+
 -- what both lines ask
 record IsChainLine (c : Context) (a b : Entry) : Type 0 where
   pub middle : ℕ
@@ -196,7 +201,7 @@ module _ (c : Context) (i j : ℕ) (a b : Entry) (n : AreNamed c (i ∷ j ∷ []
 
   pub and_clear : JoinOverGroup (elements_at c) a b → IsClear c (And i j)
   and_clear (x, u, y, r, g) =
-      (and_right c i j a b x u y (chain_at x u y r) (record { kind = Full; x = min x y; y = max x y; carrier = both_of a b; cause = Adjacent }) g (refl, refl) refl refl).1
+      (and_right c i j a b x u y (chain_at x u y r) (entry_of Full x y (both_of a b)) g (refl, refl) refl refl).1
 
   pub key_means : IsClear c (Key i j) → JoinOverCell (elements_at c) a b
   key_means h =
@@ -210,7 +215,7 @@ module _ (c : Context) (i j : ℕ) (a b : Entry) (n : AreNamed c (i ∷ j ∷ []
 
   pub key_clear : JoinOverCell (elements_at c) a b → IsClear c (Key i j)
   key_clear (x, u, y, k, r, g) =
-      (key_right c i j a b x u y (chain_at x u y r) (record { kind = Semi; x = min x y; y = max x y; carrier = with_cell (both_of a b) k; cause = Adjacent }) k g (refl, refl) refl refl).1
+      (key_right c i j a b x u y (chain_at x u y r) (entry_of Semi x y (with_cell (both_of a b) k)) k g (refl, refl) refl refl).1
 
 -- ---- `or`
 

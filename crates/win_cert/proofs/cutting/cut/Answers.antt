@@ -21,8 +21,17 @@ returns c =
     let d = c.store-store.result.now in
     let same : d ≡ r = c.store-store.ensures.value in
     let claim = (get_or c.entries-2.result.now n c.index-entries-entry.result).kind in
-    let cert : Cert = record { version = FIRST_VERSION; board = c.board.result.now; player = c.colour.result; lines = c.of.result; claim = claim; entry = c.index.result.now } in
-    let cut = cut_of d r n c.deref.result.now c.in_ok-lines.numbers.items cert same c.requires c.board.ensures c.colour.ensures c.of.ensures c.entries.ensures.value c.entries.ensures.few c.in_ok-marks.ensures c.deref.ensures.value c.in_ok-lines.ensures c.index.ensures in
+    let cert : Cert = record {
+      version = FIRST_VERSION;
+      board = c.board.result.now;
+      player = c.colour.result;
+      lines = c.of.result;
+      claim = claim;
+      entry = c.index.result.now;
+    } in
+    let cut = cut_of d r n c.deref.result.now c.in_ok-lines.numbers.items cert same c.requires c.board.ensures
+    c.colour.ensures c.of.ensures c.entries.ensures.value c.entries.ensures.few c.in_ok-marks.ensures
+    c.deref.ensures.value c.in_ok-lines.ensures c.index.ensures in
     let all = c.entries-2.ensures.value ∙ ap (λ (d : StoreData). d.entries) same in
     record {
       certifies = λ a h. certified r n c.deref.result.now a cert cut h refl

@@ -79,7 +79,8 @@ entries-preserved c =
                 (sym w.lines-is)
                 (subst (λ v. AreLinesFor d marks (n + 1) v c.push.new.self.items) (sym w.in_ok-push-2.ensures.items)
                 (subst (AreLinesFor d marks (n + 1) (now ++ line ∷ [])) (sym more)
-                (one_more d marks n now renamed a line c.entries.invariant.lines c.entries-entries.ensures.sound few c.requires.closed at w.if-marks-number.true form)));
+                (one_more d marks n now renamed a line c.entries.invariant.lines
+                c.entries-entries.ensures.sound few c.requires.closed at w.if-marks-number.true form)));
           }
       | else-marks-number w ↦ record {
         within = omega arith;
