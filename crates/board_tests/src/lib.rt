@@ -8,6 +8,8 @@
 #[cfg(test)]
 mod of_cert_check;
 #[cfg(test)]
+mod of_cert_draft;
+#[cfg(test)]
 mod of_circuit;
 #[cfg(test)]
 mod of_conn_store;

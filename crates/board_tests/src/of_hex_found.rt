@@ -1,16 +1,15 @@
 //! Certificates that are found: whose they are, those that don't count, and how many positions at
 //! most are entered.
 
-use super::of_hsearch::board_of;
+use super::of_cert_draft::{AFTER_D1, BUDGET, ENTERED, board, lines_of, sought};
 use cert_check::check;
 use conn_store::Kind;
 use hex_board::Board;
-use hex_cells::{Cell, Colour, Size};
-use hex_found::{Findings, Memory, Sought, certified, find, seek};
+use hex_cells::{Cell, Colour};
+use hex_found::{Findings, Memory, certified, find};
 use std::alloc::Global;
 use std::process::Abort;
 use std::rt::HostRuntime;
-use std::test::Fail;
 use win_cert::{
     LATEST_VERSION, MOST_LINES, SECOND_VERSION, THIRD_VERSION, Verdict, claimed_move, read,
 };
@@ -40,28 +39,14 @@ const REFUSED: &[u8] = b"hexcert 2\nsize 2\nplayer black\nblack\nwhite\n\
     adj a2 a1\nadj a1 edge1\nadj a2 b1\nadj b1 edge1\n\
     key 0 1\nkey 2 3\nor 4 4\nadj a2 edge2\nkey 6 7\nsemi 8\n";
 
-// Enough for the boards of these tests.
-const BUDGET: u64 = 10_000;
-
 // 3^2 for Black's stone on c1 of size 3.
 const AFTER_C1: u32 = 9;
-
-// 3^3 for Black's stone on d1 of size 4.
-const AFTER_D1: u32 = 27;
 
 // 3^7 for Black's stone on d2 of size 4.
 const AFTER_D2: u32 = 2_187;
 
 // 3^8 for Black's stone on d2 of size 5.
 const AFTER_D2_OF_FIVE: u32 = 6_561;
-
-// The least budget by which a program that was built before states were counted so won after d1.
-const ENTERED: u64 = 5;
-
-// The board of this size with these stones.
-fn board(rt: &impl Abort, size: u32, stones: u32) -> Board {
-    board_of(Size::of(size).expect(rt, "a size"), stones)
-}
 
 // Puts a stone on the cell with this number, if that lies on the board and is empty.
 fn put(board: &mut Board, colour: Colour, number: u32) {
@@ -134,10 +119,6 @@ fn small_boards_are_decided(rt: HostRuntime) {
 fn claim_is_a_move(rt: HostRuntime) {
     for size in [2, 3, 4, 5] {
         let board = board(&rt, size, 0);
-        let Ok(sought) = seek(rt.alloc(), &board, Colour::Black, 1) else {
-            panic!(rt; "there is memory");
-        };
-        assert_eq!(rt; sought.by_mover, Some(true), "{size}");
         let Some(found) = findings(&rt, rt.alloc(), &board, Colour::Black, 1).found else {
             panic!(rt; "a certificate is found");
         };
@@ -221,51 +202,14 @@ fn version_is_what_lines_need(rt: HostRuntime) {
     }
 }
 
-// What is sought on size 4 after d1. More than one position has to be entered.
-pub(crate) fn sought(rt: &impl Abort, alloc: Global, budget: u64) -> Sought {
-    let Ok(sought) = seek(alloc, &board(rt, 4, AFTER_D1), Colour::White, budget) else {
-        panic!(rt; "there is memory");
-    };
-    sought
-}
-
-// How many lines the certificate has; 0 if there is none.
-fn lines_of(sought: &Sought) -> usize {
-    let cert = sought.cert.as_ref();
-    cert.map_or(0, |cert| cert.lines.as_slice().len())
-}
-
+/// As many positions as have to be entered are enough, and one fewer is not.
 #[test]
-fn budget_is_spent(rt: HostRuntime) -> Result<(), Fail> {
-    let whole = sought(&rt, rt.alloc(), BUDGET);
-    assert_eq!(rt; whole.by_mover, Some(false));
-    assert!(rt; 1 < whole.entered && whole.entered < BUDGET);
-    assert_eq!(rt; whole.entered, ENTERED);
-    // As many positions are enough, and one fewer is not.
-    let same = sought(&rt, rt.alloc(), whole.entered);
-    assert!(rt; 0 < lines_of(&same));
-    assert_eq!(rt;
-        (same.entered, lines_of(&same)),
-        (whole.entered, lines_of(&whole))
-    );
-    for budget in [whole.entered - 1, 1, 0] {
-        let short = sought(&rt, rt.alloc(), budget);
-        assert_eq!(rt;
-            (short.by_mover, short.entered, lines_of(&short)),
-            (None, budget, 0)
-        );
-        assert!(rt; short.cert.is_none());
-        // A cell is named once the first position was entered.
-        assert_eq!(rt; short.best.is_some(), 0 < budget);
-        let none = findings(
-            &rt,
-            rt.alloc(),
-            &board(&rt, 4, AFTER_D1),
-            Colour::White,
-            budget,
-        );
+fn budget_is_kept(rt: HostRuntime) {
+    let board = board(&rt, 4, AFTER_D1);
+    for budget in [ENTERED - 1, 1, 0] {
+        let none = findings(&rt, rt.alloc(), &board, Colour::White, budget);
         assert_eq!(rt; (none.found.is_some(), none.entered), (false, budget));
+        let short = sought(&rt, rt.alloc(), budget);
         assert_eq!(rt; none.best, short.best);
     }
-    Ok(())
 }

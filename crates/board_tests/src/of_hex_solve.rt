@@ -1,7 +1,7 @@
 //! The solver from end to end: who wins small boards by which claim, the checker's word on each
 //! certificate, and what is spent if it is unknown.
 
-use super::of_hex_found::sought;
+use super::of_cert_draft::sought;
 use super::of_hsearch::board_of;
 use cert_check::check;
 use conn_store::Kind;

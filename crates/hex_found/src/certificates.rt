@@ -2,12 +2,11 @@
 
 ghost use Rattle.std.specs.Prelude.{◌≡◌, ◌≤◌, true, IfOk, IfSome, None, Ok, length};
 ghost use Rattle.hex_board.specs.Positions.{is_empty_at};
-ghost use Rattle.hex_found.specs.Found.{IsFound, claim_for};
+ghost use Rattle.hex_found.specs.Found.{IsFound};
 
 use super::refusals::Memory;
-use super::seeking::{Sought, seek};
 use cert_check::check;
-use conn_store::Kind;
+use cert_draft::{Sought, claim_for, seek};
 use hex_board::Board;
 use hex_cells::{Cell, CellSet, Colour};
 use std::alloc::Global;
@@ -65,17 +64,6 @@ pub fn find(
         entered,
         best,
     })
-}
-
-/// What is claimed for a winner: that he wins by moving first, or even with the other to move.
-pub(crate) fn claim_for(winner: Colour, mover: Colour) -> Kind
-    ensures { result ≡ claim_for winner mover }
-{
-    if winner == mover {
-        Kind::Semi
-    } else {
-        Kind::Full
-    }
 }
 
 /// The certificate, if it has the version that its lines need, can be written, is of this board, is

@@ -9,3 +9,9 @@ impl From<cert_check::Memory> for Memory {
         Memory
     }
 }
+
+impl From<cert_draft::Memory> for Memory {
+    fn from(_refused: cert_draft::Memory) -> Memory {
+        Memory
+    }
+}

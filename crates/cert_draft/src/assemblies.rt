@@ -2,7 +2,7 @@
 //! written once. An entry by a stone needs one with a stone more, so all needs of a scope are there
 //! before its turn.
 
-use super::certificates::claim_for;
+use super::claims::claim_for;
 use super::derivers::Deriver;
 use super::drafts::{At, Draft, MOST_NEEDS, Need, Stone};
 use super::pools::choose;
