@@ -230,11 +230,11 @@ def expect_names():
 def expect_positions(folder):
     """The least budget that is enough: from nothing, from a right number and from wrong ones, an odd one among them."""
     out = folder / "positions.tsv"
-    for guess in ("", "4-d1\t5\n", "4-d1\t3\n", "4-d1\t40\n"):
+    for guess in ("", "4-d1\t3\n", "4-d1\t2\n", "4-d1\t40\n"):
         out.write_text(guess)
         done = subprocess.run([FOLDER / "positions.py", "--out", out, "4-d1"], capture_output=True, text=True)
         seen = (done.returncode, done.stdout, out.read_text())
-        expect(seen == (0, "4-d1\t5\n", "4-d1\t5\n"), f"positions.py from {guess!r}: {seen}")
+        expect(seen == (0, "4-d1\t3\n", "4-d1\t3\n"), f"positions.py from {guess!r}: {seen}")
 
 
 def expect_middle():

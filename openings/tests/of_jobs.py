@@ -52,8 +52,8 @@ def expect_deep(folder):
     """Either winner, by jobs of the least budget: what isn't solved is split, and no position is listed twice."""
     look = "--look", "30"
     for name, winner, cells, way in (
-        ("4-d1", "black", None, look),
-        ("4-d1", "black", None, ["--best"]),
+        ("5-b2", "black", None, look),
+        ("5-b2", "black", None, ["--best"]),
         ("4-d2", "white", "b3", look),
         ("4-d2", "white", "a1,b3", ["--best"]),
     ):

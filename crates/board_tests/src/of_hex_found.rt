@@ -42,11 +42,11 @@ const REFUSED: &[u8] = b"hexcert 2\nsize 2\nplayer black\nblack\nwhite\n\
 // 3^2 for Black's stone on c1 of size 3.
 const AFTER_C1: u32 = 9;
 
-// 3^7 for Black's stone on d2 of size 4.
-const AFTER_D2: u32 = 2_187;
-
 // 3^8 for Black's stone on d2 of size 5.
 const AFTER_D2_OF_FIVE: u32 = 6_561;
+
+// 3^9 for Black's stone on e2 of size 5.
+const AFTER_E2_OF_FIVE: u32 = 19_683;
 
 // Puts a stone on the cell with this number, if that lies on the board and is empty.
 fn put(board: &mut Board, colour: Colour, number: u32) {
@@ -189,9 +189,9 @@ fn version_is_what_lines_need(rt: HostRuntime) {
     // The size, the stones, and the version of the certificate.
     let rows = [
         (3, AFTER_C1, SECOND_VERSION),
-        (4, AFTER_D2, THIRD_VERSION),
-        (4, AFTER_D1, LATEST_VERSION),
-        (5, AFTER_D2_OF_FIVE, LATEST_VERSION),
+        (4, AFTER_D1, SECOND_VERSION),
+        (5, AFTER_D2_OF_FIVE, THIRD_VERSION),
+        (5, AFTER_E2_OF_FIVE, LATEST_VERSION),
     ];
     for (size, stones, version) in rows {
         let board = board(&rt, size, stones);

@@ -55,6 +55,7 @@ impl Deriver {
                 region,
             };
             self.reach.report(&question, Until::Closed)?;
+            self.reach.go_on(Until::Closed)?;
             let mut list = Vec::new(self.alloc);
             take_out(self.alloc, &mut self.reach, Kind::Full, &mut list)?;
             take_out(self.alloc, &mut self.reach, Kind::Semi, &mut list)?;

@@ -69,6 +69,11 @@ impl Elements {
         element.map_or(CellSet::none(), |element| element.cells)
     }
 
+    /// The empty cells.
+    pub(crate) fn empties(&self) -> CellSet {
+        self.empties
+    }
+
     /// The empty cell that an element is, as a set; none if it is a group.
     pub(crate) fn alone(&self, element: u8) -> CellSet {
         self.cells(element).meet(self.empties)

@@ -3,7 +3,7 @@
 ghost use Rattle.std.specs.Prelude.{◌≡◌};
 ghost use Rattle.edge_reach.specs.Reports.{edge_numbers};
 
-use super::entries::{Entry, State, give_up};
+use super::entries::{Entry, Rule, State, give_up};
 use super::held::{Held, MOST_FULL, MOST_SEMI};
 use super::queues::Queue;
 use conn_store::Kind;
@@ -124,6 +124,28 @@ impl Found {
             }
         }
         Ok(common)
+    }
+
+    /// Lists the elements that lie beside an edge, each with the number of the entry that says so.
+    /// Such entries come before all others.
+    pub(crate) fn list_beside(
+        &self,
+        edge: u8,
+        beside: &mut Vec<(u8, u32)>,
+    ) -> Result<(), AllocError> {
+        beside.clear();
+        for (number, entry) in self.entries.iter().enumerate() {
+            if entry.rule != Rule::Adjacent {
+                break;
+            }
+            if entry.x == edge
+                && 1 < entry.y
+                && let Ok(number) = u32::try_from(number)
+            {
+                beside.push((entry.y, number))?;
+            }
+        }
+        Ok(())
     }
 
     /// Takes the next entry that waits, with its number. `None` if none does.

@@ -5,9 +5,9 @@
 //! has to move first. Its *carrier* has the cells that this needs to be empty. A *question* is of a
 //! player, his stones, and a region of empty cells; the opponent has all other cells.
 //!
-//! **A caller** makes a [`Reach`] once, asks it one question after another ([`Reach::report`]),
-//! and reads what it found: [`Reach::between_edges`], [`Reach::entry`], [`Reach::derivation`], and
-//! the currents ([`Reach::currents`]).
+//! **A caller** makes a [`Reach`] once, asks it one question after another ([`Reach::report`], and
+//! [`Reach::go_on`] if that isn't enough), and reads what it found: [`Reach::between_edges`],
+//! [`Reach::entry`], [`Reach::derivation`], and the currents ([`Reach::currents`]).
 //!
 //! **What is proved.** That each call is safe and ends, and what the calls that read a report
 //! answer of what it has (specs/Reports.antt): [`Reach::entry`] the entry with this number,
@@ -32,6 +32,9 @@
 //! - Of semi entries that have no cell in common two and three are tried in each way, but of more
 //!   one choice alone, by greed: a third of the positions are left to enter, at about the same time
 //!   for each.
+//! - Over an edge elements are joined only if they lie beside it, and only if a report without that
+//!   wasn't enough. A cell beside an edge then counts as the edge does, as if a stone were there:
+//!   so a report sees what else a stone on each such cell would have to show.
 //!
 //! Source: H-search (V. Anshelevich); the electrical circuit over virtual connections is his, too.
 #![tactic(auto)]
@@ -50,4 +53,4 @@ pub use elements::{Cells, cells_of};
 pub use entries::{End, Entry, MOST_UNITED, Rule};
 pub use found::Limits;
 pub use held::{MOST_FULL, MOST_SEMI};
-pub use reports::{Question, Reach, Until};
+pub use reports::{MOST_OVER_EDGES, Question, Reach, Until};

@@ -26,6 +26,11 @@ pub struct Question {
     pub region: CellSet,
 }
 
+/// A report goes on over edges if its region has at most so many empty cells. By trial: on size 6
+/// that leaves half of the positions to a solver and costs as much time as they did; with more
+/// cells it costs more.
+pub const MOST_OVER_EDGES: u32 = 30;
+
 /// When a report may end.
 #[derive(Clone, Copy, Debug, PartialEq, Eq)]
 pub enum Until {
@@ -56,6 +61,8 @@ pub struct Reach {
     others: Vec<(CellSet, u32)>,
     // A semi entry, and those of the others that are united with it.
     united: Vec<u32>,
+    // The elements beside an edge, each with the number of the entry that says so.
+    beside: Vec<(u8, u32)>,
     walk: Walk,
 }
 
@@ -69,6 +76,7 @@ impl Reach {
             ways: ways.collect(alloc)?,
             others: Vec::new(alloc),
             united: Vec::new(alloc),
+            beside: Vec::new(alloc),
             walk: Walk::make(alloc),
         })
     }
@@ -126,6 +134,23 @@ impl Reach {
         for element in 1..self.elements.count() {
             self.add_near(element)?;
         }
+        self.take_each(until)
+    }
+
+    /// Goes on with a report by one rule more: two elements that lie beside an edge are joined over
+    /// it. It does so if the region has at most [`MOST_OVER_EDGES`](super::MOST_OVER_EDGES) empty
+    /// cells.
+    pub fn go_on(&mut self, until: Until) -> Result<(), AllocError> {
+        if self.elements.empties().count() <= MOST_OVER_EDGES {
+            self.add_over(0)?;
+            self.add_over(1)?;
+            self.take_each(until)?;
+        }
+        Ok(())
+    }
+
+    // Takes the entries that wait, one after another.
+    fn take_each(&mut self, until: Until) -> Result<(), AllocError> {
         for _taken in 0..u32::MAX {
             let Some((number, entry)) = self.found.take() else {
                 break;
@@ -146,6 +171,26 @@ impl Reach {
             if self.elements.are_near(x, y) {
                 let entry = Entry::of(Kind::Full, x, y, CellSet::none(), Rule::Adjacent);
                 self.found.add(entry, &[])?;
+            }
+        }
+        Ok(())
+    }
+
+    // Adds a full entry of each two elements that lie beside this edge: the rule of AND over it.
+    fn add_over(&mut self, edge: u8) -> Result<(), AllocError> {
+        self.found.list_beside(edge, &mut self.beside)?;
+        for place in 0..self.beside.len() {
+            self.add_from(place)?;
+        }
+        Ok(())
+    }
+
+    // Adds those of the element at a place and the ones before it.
+    fn add_from(&mut self, place: usize) -> Result<(), AllocError> {
+        if let Some((y, number)) = self.beside.get(place).copied() {
+            for (x, other) in self.beside.iter().take(place) {
+                let entry = Entry::of(Kind::Full, *x, y, CellSet::none(), Rule::And);
+                self.found.add(entry, &[number, *other])?;
             }
         }
         Ok(())
@@ -183,7 +228,7 @@ impl Reach {
     }
 
     // Says that a full entry leads from each of its elements to the other. None is joined at an
-    // edge.
+    // edge here.
     fn add_ways(&mut self, number: u32, entry: &Entry) -> Result<(), AllocError> {
         let carrier = entry.carrier;
         for (from, to) in [(entry.x, entry.y), (entry.y, entry.x)] {

@@ -11,16 +11,16 @@
 //! tables ([`Search::tables`]), and [`Search::best`] is the cell that it would try next.
 //!
 //! **How it goes.** A round goes from the root to a state that is new, always to the cell with the
-//! least disproof number, and makes the mover's report there, in which a semi entry ends it, and
-//! otherwise the other's. A state is decided by a semi entry of the mover whose carrier is empty,
-//! by a full one of the other's, if no reply is left, or by a reply after which the mover has a
-//! full entry or leaves none. If no reply is left, the other's semi entries are the cases of a full
-//! one.
+//! least disproof number, and makes the mover's report there, which goes on over edges if need be
+//! and ends at a semi entry; if there is none, it makes the other's. A state is decided by a semi
+//! entry of the mover whose carrier is empty, by a full one of the other's, if no reply is left, or
+//! by a reply after which the mover has a full entry or leaves none. If no reply is left, the
+//! other's semi entries are the cases of a full one.
 //!
 //! **What is proved.** That each call is safe and ends, that no more states are counted as entered
 //! than the budget has, that it is told to be spent only if as many were counted, and that the best
-//! cell is empty. Nothing of who wins: `hex_found` makes certificates of what was found, and these
-//! are checked.
+//! cell is empty. Nothing of who wins: `cert_draft` makes certificates of what was found, and
+//! `hex_found` has them checked.
 //!
 //! **What is only tested, or not said.** Who wins, and how soon that is found; that each state that
 //! is counted was entered. Without a promise, by trial: in which order cells are tried, and

@@ -60,6 +60,9 @@ impl Reporters {
         let key = |kind: Kind| state.key(player, kind);
         if player == state.mover {
             self.mover.report(&question, Until::FirstWin)?;
+            if self.mover.between_edges(Kind::Semi).is_empty() {
+                self.mover.go_on(Until::FirstWin)?;
+            }
             keep(&mut self.mover, state, key(Kind::Semi), tables)?;
             return Ok(!self.mover.between_edges(Kind::Semi).is_empty());
         }

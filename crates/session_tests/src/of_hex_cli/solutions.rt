@@ -18,8 +18,8 @@ static WON: &str = "\
 budget-for-four-cells|solve --hsearch off --budget 65|(;GM[11]SZ[2])|won black~|hexcert 2~|yes semi~
 the-other-moves|solve|(;GM[11]SZ[2];B[a2])|won black~|hexcert 2~|yes full~
 no-best-cell-of-a-win|solve --best on|(;GM[11]SZ[2];B[a2])|won black~|hexcert 2~|yes full~
-found-for-the-other|solve|(;GM[11]SZ[4];B[d1])|won black~|hexcert 4~|yes full~
-found-for-the-mover|solve|(;GM[11]SZ[4];B[d2])|won white~|hexcert 3~|yes semi~
+found-for-the-other|solve|(;GM[11]SZ[5];B[e2])|won black~|hexcert 4~|yes full~
+found-for-the-mover|solve|(;GM[11]SZ[5];B[a3])|won white~|hexcert 3~|yes semi~
 semi-at-the-root|solve --budget 1|(;GM[11]SZ[4]AB[a1][a2][a3])|won black~|hexcert 2~|yes semi~";
 
 #[test]
