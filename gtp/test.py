@@ -422,9 +422,13 @@ def look_fault():
     shown = {row[0]: (re.findall("won|lost", " ".join(row)) or [row[2]])[0] if row[1] != "0" else "-" for row in rows}
     if visits.split() != [word for row in walked for word in row] or len(walked) < 2 or move not in dict(walked) or pairs != shown:
         return f"what the look-ahead found: {visits}; {worths}; of {report}"
-    # A cell that is proved says so.
-    _, got, _ = run(WITH, ["--size", "5", "--playouts", "100", "--look", "50"], b"play b d1\nplay w b3\nplay b a4\ngenmove w\nlook-worths\n")
-    if not re.search(rb"\bc2 won\b", got):
+    # A cell that is proved says so; one that is proved to win is certified.
+    words = ["--size", "5", "--playouts", "100", "--look", "50"]
+    _, got, _ = run(WITH, words, b"play b e4\nplay w e3\nplay b e1\ngenmove w\nlook-worths\n")
+    if not re.search(rb"\bd3 lost\b", got):
+        return f"moves that the look-ahead refutes: {got}"
+    _, got, _ = run(WITH, words, b"play b d1\nplay w b3\nplay b a4\ngenmove w\nmustplay\nlook-worths\n")
+    if not got.endswith(b"= c2\n\n= win c2\n\n? no look\n\n"):
         return f"a move that the look-ahead proves: {got}"
     return None
 

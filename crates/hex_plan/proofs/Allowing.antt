@@ -65,17 +65,18 @@ by_found board player (Win cert cell) h w = tt
 by_found board player (Search threats allowed lost) (threat, is, found, empties, l) w
     = empties_allowed board allowed empties w
 
-pub planned_allows : (board : Position) (player : Colour) (hsearch : Bool) (solve : ℕ) (p : Planned)
-    → IsPlannedFor board player hsearch solve p → HasRoom board → AllowsEmpties board p.plan
-planned_allows board player true solve p h w = elim (rests solve board player p h) [
+pub planned_allows : (board : Position) (player : Colour) (hsearch : Bool) (solve look : ℕ)
+    (p : Planned) → IsPlannedFor board player hsearch solve look p → HasRoom board → AllowsEmpties board p.plan
+planned_allows board player true solve look p h w = elim (rests solve look board player p h) [
   | inl g ↦ by_plan board player p.plan p.own p.other g w
   | inr g ↦ by_found board player p.plan g.found w
 ]
-planned_allows board player false solve p h w = subst (λ (v : Plan). AllowsEmpties board v) (sym h.plan)
+planned_allows board player false solve look p h w = subst (λ (v : Plan). AllowsEmpties board v) (sym h.plan)
     (empties_allowed board h.allowed h.empties w)
 
-pub if_allows : {E : Type 0} (board : Position) (player : Colour) (hsearch : Bool) (solve : ℕ)
-    (r : Result Planned E) → HasRoom board → IfOk r (IsPlannedFor board player hsearch solve)
+pub if_allows : {E : Type 0} (board : Position) (player : Colour) (hsearch : Bool) (solve look : ℕ)
+    (r : Result Planned E) → HasRoom board → IfOk r (IsPlannedFor board player hsearch solve look)
     → IfOk r (λ p. AllowsEmpties board p.plan)
-if_allows board player hsearch solve (Ok p) w h = planned_allows board player hsearch solve p h w
-if_allows board player hsearch solve (Err e) w h = tt
+if_allows board player hsearch solve look (Ok p) w h
+    = planned_allows board player hsearch solve look p h w
+if_allows board player hsearch solve look (Err e) w h = tt

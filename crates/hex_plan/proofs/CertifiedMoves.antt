@@ -219,16 +219,16 @@ found_threat board player plan threats allowed lost h q =
     let (threat, is, found, empties, l) = subst (λ (v : Plan). IsFoundPlan board player v) q h in
     (threat, is, found)
 
-search_rests : (board : Position) (player : Colour) (hsearch : Bool) (solve : ℕ) (p : Planned)
+search_rests : (board : Position) (player : Colour) (hsearch : Bool) (solve look : ℕ) (p : Planned)
     (threats : List Threat) (allowed : ℕ) (lost : Bool)
-    → IsPlannedFor board player hsearch solve p → p.plan ≡ Search threats allowed lost
+    → IsPlannedFor board player hsearch solve look p → p.plan ≡ Search threats allowed lost
     → SearchRests board player threats allowed lost
-search_rests board player true solve p threats allowed lost h q
-    = elim (rests solve board player p h) [
+search_rests board player true solve look p threats allowed lost h q
+    = elim (rests solve look board player p h) [
       | inl g ↦ inl (narrowed_by board player p.plan p.own p.other threats allowed lost g q)
       | inr g ↦ inr (inl (found_threat board player p.plan threats allowed lost g.found q))
     ]
-search_rests board player false solve p threats allowed lost h q
+search_rests board player false solve look p threats allowed lost h q
     = inr (inr (no_threat threats h.allowed allowed lost (sym h.plan ∙ q)))
   where
     no_threat : (threats : List Threat) (a b : ℕ) (lost : Bool)
@@ -260,7 +260,8 @@ rests_outside board player threats allowed lost i threat k on (inr (inr (is, l))
 pub plan_loses_outside : HoldsOfPlans LosesOutsideCarriers
 plan_loses_outside board player means p on h threats allowed lost q i threat s k empty out
     = rests_outside board player threats allowed lost i threat k on
-    (search_rests board player means.hsearch means.solve p threats allowed lost h.rests q) s empty out
+    (search_rests board player means.hsearch means.solve means.look p threats allowed lost h.rests q)
+    s empty out
 
 pub outside_loses : (knobs : Knobs) (means : Means) (t : TurnData) → IsGood knobs means t
     → LosesOutsideThreats t
@@ -298,7 +299,8 @@ rests_lost board player threats allowed k on (inr (inr (is, l))) empty = absurd 
 pub plan_loses : HoldsOfPlans LosesAsPlanned
 plan_loses board player means p on h threats allowed q k empty
     = rests_lost board player threats allowed k on
-    (search_rests board player means.hsearch means.solve p threats allowed true h.rests q) empty
+    (search_rests board player means.hsearch means.solve means.look p threats allowed true h.rests q)
+    empty
 
 pub lost_loses : (knobs : Knobs) (means : Means) (t : TurnData) → IsGood knobs means t
     → LosesWhereLost t

@@ -8,8 +8,9 @@
 --    entry between the edges follows over an empty cell, and the carrier of a full one has a cell),
 --    MiddleOf and WinningCells (the cell by which such an entry wins), collecting.rt with Collected
 --    (the threats, by rising carriers), regions.rt (the mustplay region), losses.rt (the certificate
---    of a loss, which is checked); specs/Planning.antt, which only private clauses cite; proofs/PlanLaws and Allowing (the allowed cells are empty,
---    and there is one).
+--    of a loss, which is checked), solving.rt with Sought and after_stone.rt with AfterStone (plans
+--    by certificates that are found); specs/Planning.antt, which only private clauses cite;
+--    proofs/PlanLaws and Allowing (the allowed cells are empty, and there is one).
 -- 3. Turns: src/turns.rt with proofs/Decides; their texts: src/texts.rt, report_texts.rt,
 --    mustplay_texts.rt with proofs/Rows and Lines.
 -- 4. That certified moves win: proofs/CertifiedMoves (`is_certified`, of good turns, by
@@ -23,6 +24,7 @@ pub mod Reports
 pub mod Rooms
 pub mod Same
 -- Steps of this crate's own proofs.
+mod AfterStone
 mod Allowing
 mod Collected
 mod Decides

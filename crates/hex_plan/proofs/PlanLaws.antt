@@ -55,19 +55,19 @@ found_by board player (Win cert cell) k h w =
     subst (λ (c : ℕ). WonBy board player (Win cert cell) c) w (cert, refl, inr h)
 found_by board player (Search threats allowed lost) k h w = absurd w
 
-won_for : (board : Position) (player : Colour) (hsearch : Bool) (solve : ℕ) (p : Planned) (k : ℕ)
-    → IsPlannedFor board player hsearch solve p → IsWinBy p.plan k → WonBy board player p.plan k
-won_for board player true solve p k h w = elim (rests solve board player p h) [
+won_for : (board : Position) (player : Colour) (hsearch : Bool) (solve look : ℕ) (p : Planned)
+    (k : ℕ) → IsPlannedFor board player hsearch solve look p → IsWinBy p.plan k → WonBy board player p.plan k
+won_for board player true solve look p k h w = elim (rests solve look board player p h) [
   | inl g ↦ won_by board player p.plan p.own p.other k g w
   | inr g ↦ found_by board player p.plan k g.found w
 ]
-won_for board player false solve p k h w
+won_for board player false solve look p k h w
     = absurd (subst (λ (v : Plan). IsWinBy v k) h.plan w)
 
 pub planned_win : (board : Position) (player : Colour) (means : Means) (p : Planned) (k : ℕ)
     → IsPlanned board player means p → IsWinBy p.plan k → WonBy board player p.plan k
 planned_win board player means p k h w
-    = won_for board player means.hsearch means.solve p k h.rests w
+    = won_for board player means.hsearch means.solve means.look p k h.rests w
 
 -- the board is one
 abbrev pub IsBoard : Position → Type 0

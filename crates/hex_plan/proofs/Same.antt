@@ -72,7 +72,7 @@ pub record IsBare (knobs : Knobs) (t : TurnData) : Type 0 where
 -- if no connections are looked for a good turn has a tree, which was searched for it among all
 -- empty cells
 bare : (knobs : Knobs) (hsearch : Bool) (solve look : ℕ) (t : TurnData) → hsearch ≡ false
-    → IsPlannedFor t.board t.player hsearch solve t.planned
+    → IsPlannedFor t.board t.player hsearch solve look t.planned
     → FollowsPlan knobs (record { hsearch = hsearch; solve = solve; look = look }) t t.planned.plan
     → IsBare knobs t
 bare knobs true solve look t off h f = absurd (cc)

@@ -62,8 +62,8 @@ IsDecidedBySearch knobs means t allowed =
     × (tree : ClosedTree) × (t.closed ≡ Some tree)
     × IsSearchedFor knobs t (searched_cells allowed t.looked) tree
 
--- the turn is decided as planned: by the cell of a win, without a look-ahead or a tree; or by a
--- search
+-- the turn is decided as planned: by the cell of a win, and then it keeps no look-ahead, and has no
+-- tree; or by a search
 abbrev pub FollowsPlan : Knobs → Means → TurnData → Plan → Type 0
 FollowsPlan knobs means t (Win cert cell) =
     (t.looked ≡ None) × (t.closed ≡ None) × (t.cell ≡ cell)

@@ -1,5 +1,5 @@
 -- What is planned before a search: a certified win, or the cells among which is searched.
-use Rattle.std.specs.Prelude.{◌≡◌, ◌<◌, ◌≤◌, ◌↔◌, ◌⊎◌, ℕ, Bool, true, false, zero, suc}
+use Rattle.std.specs.Prelude.{◌≡◌, ◌<◌, ◌≤◌, ◌+◌, ◌==◌, ◌↔◌, ◌⊎◌, ℕ, Bool, true, false, zero, suc}
 use Rattle.std.specs.Prelude.{if◌then◌else◌}
 use Rattle.std.specs.Prelude.{List, [], ◌∷◌, Option, Some, None, All, IfSome}
 use Rattle.std.specs.List.{slice_get}
@@ -24,6 +24,7 @@ use Rattle.win_cert.specs.Verdicts.{IsVerdict}
 use Rattle.win_cert.specs.declared.certs.Cert.{Cert}
 use Rattle.win_cert.specs.declared.verdicts.Verdict.TheVariants.{Yes}
 use Rattle.hex_plan.specs.declared.settings.Means.{Means}
+use Rattle.hex_plan.specs.declared.settings.TheConstants.{SOLVE_AFTER}
 use Rattle.hex_plan.specs.declared.types.Plan.{Plan}
 use Rattle.hex_plan.specs.declared.types.Plan.TheVariants.{Win, Search}
 use Rattle.hex_plan.specs.declared.plans.Planned.{Planned}
@@ -173,12 +174,20 @@ pub record IsSolved (board : Position) (player : Colour) (p : Planned) : Type 0 
   pub unjoined : (a : Entry) → ¬ (IsEdgeEntry own a)
   pub own_is : p.own ≡ Some own
 
--- what is planned if connections are looked for or not, and certificates with that budget: with a
--- budget of 0 a plan rests on connections alone
-abbrev pub IsPlannedFor : Position → Colour → Bool → ℕ → Planned → Type 0
-IsPlannedFor board player false solve p = IsFree board p
-IsPlannedFor board player true zero p = IsConnected board player p
-IsPlannedFor board player true (suc less) p =
+-- the plan is a win
+abbrev pub IsWin : Plan → Type 0
+IsWin (Win cert cell) = Unit {0}
+IsWin (Search threats allowed lost) = ⊥
+
+-- what is planned if connections are looked for or not, certificates with the first budget, and a
+-- look-ahead with the second: with both 0 a plan rests on connections alone, and with the first 0
+-- on no certificate that was found but one of a win
+abbrev pub IsPlannedFor : Position → Colour → Bool → ℕ → ℕ → Planned → Type 0
+IsPlannedFor board player false solve look p = IsFree board p
+IsPlannedFor board player true zero zero p = IsConnected board player p
+IsPlannedFor board player true zero (suc less) p =
+    IsConnected board player p ⊎ (IsSolved board player p × IsWin p.plan)
+IsPlannedFor board player true (suc less) look p =
     IsConnected board player p ⊎ IsSolved board player p
 
 -- the plan is a search of a lost board
@@ -191,22 +200,28 @@ IsLost (Search threats allowed lost) = lost ≡ true
 abbrev pub IsLossOf : Position → Colour → Plan → Option Cert → Type 0
 IsLossOf board player plan loss = IfSome loss (λ cert. IsLost plan × ShowsLoss board player cert)
 
--- how many positions the solver may enter with these means: none if no connections are looked for
+-- the means without a look-ahead
+abbrev pub unlooked : Means → Means
+unlooked means = record means { look = 0 }
+
+-- how many positions the solver may enter after the stone of a look-ahead, if there is one: as many
+-- as before it, or so many if that is none
+abbrev pub most_after : Means → ℕ
+most_after means = if means.look == 0 then 0
+    else (if means.solve == 0 then SOLVE_AFTER else means.solve)
+
+-- how many positions the solver may enter with these means, before a look-ahead and after its
+-- stone: none if no connections are looked for
 abbrev pub most_entered : Means → ℕ
-most_entered means = if means.hsearch then means.solve else 0
+most_entered means = if means.hsearch then means.solve + most_after means else 0
 
 -- what is planned with these means on the board for the player to move, by entering at most as many
 -- positions as they say
 pub record IsPlanned (board : Position) (player : Colour) (means : Means)
     (p : Planned) : Type 0 where
-  pub rests : IsPlannedFor board player means.hsearch means.solve p
+  pub rests : IsPlannedFor board player means.hsearch means.solve means.look p
   pub within : p.entered ≤ most_entered means
   pub loss : IsLossOf board player p.plan p.loss
-
--- the plan is a win
-abbrev pub IsWin : Plan → Type 0
-IsWin (Win cert cell) = Unit {0}
-IsWin (Search threats allowed lost) = ⊥
 
 -- the plan is a win by cell k
 abbrev pub IsWinBy : Plan → ℕ → Type 0

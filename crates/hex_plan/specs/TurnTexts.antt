@@ -103,8 +103,8 @@ abbrev pub look_of : ℕ → LookedData → List ℕ
 look_of size looked =
     codes "nodes " ++ decimal looked.nodes ++ flat_map (look_line size) looked.rows
 
--- what the four commands say of a turn; of a win there is no report, of a search a certificate only
--- if it has one of a loss, and of a turn without a look-ahead nothing of one
+-- what the four commands say of a turn; of a win there is no report and nothing of a look-ahead, of
+-- a search a certificate only if it has one of a loss, and without a look-ahead nothing of one
 pub record TurnTextsData : Type 0 where
   pub report : Option (List ℕ)
   pub look : Option (List ℕ)

@@ -20,8 +20,8 @@ certificate_of (Win cert cell) loss = Some cert
 certificate_of (Search threats allowed lost) loss = loss
 
 -- a turn, as a value: the board, the player to move there, the turn's number, what was planned,
--- what the look-ahead found, if there was one, the tree that was searched for it, if one was, and
--- the cell that was chosen
+-- what the look-ahead found, if there was one and the plan is a search, the tree that was searched
+-- for it, if one was, and the cell that was chosen
 pub record TurnData : Type 0 where
   pub board : Position
   pub player : Colour
@@ -53,7 +53,8 @@ IsSearchedBy (Win cert cell) looked set = ⊥
 IsSearchedBy (Search threats allowed lost) looked set =
     ChoseAmong allowed looked × (set ≡ searched_cells allowed looked)
 
--- the turn with this number whose plan is a win, with this cell: it has no look-ahead and no tree
+-- the turn with this number whose plan is a win, with this cell: it keeps no look-ahead, and has no
+-- tree
 abbrev pub turn_of_win : Position → Colour → ℕ → Planned → ℕ → TurnData
 turn_of_win board player number planned cell = record {
   board = board;

@@ -11,7 +11,8 @@
 //! the session owes at that board: the definition `IsGood` of specs/Good.antt.
 //!
 //! **A caller** asks [`may_move`], plans, searches if the plan is a search, makes the turn and its
-//! texts, and hands it to an archive (`decided_turn` of turn_search is this up to the texts):
+//! texts, and hands it to an archive (`decided_turn` of turn_search is this up to the texts). After
+//! a look-ahead he plans once more ([`plan_after`]):
 //!
 //! ```text
 //! let planned = plan(alloc, board, colour, means)?;
@@ -40,8 +41,11 @@
 //!   move outside the carrier of a threat loses ([`moves_outside_a_threat_lose`]), and each move on
 //!   a lost board ([`lost_boards_lose`]). So it is of each plan, also without a turn
 //!   ([`plans_tell_who_wins`]).
-//! - With a budget of 0 a plan rests on connections alone, and without them on nothing. It tells
-//!   how many positions the solver entered, at most the budget.
+//! - After a look-ahead a search may become a win by a certificate too ([`plan_after`]); no other
+//!   plan changes.
+//! - With a budget of 0 a plan rests on connections alone, or after a look-ahead on the certificate
+//!   of a win, and without connections on nothing. It tells how many positions the solver entered:
+//!   at most the budget, and as many again after a look-ahead ([`SOLVE_AFTER`] for 0).
 //! - The shape of a turn has the board, the player, the allowed cells, and the knobs with the seed
 //!   `S + number·2^32` modulo 2^64.
 //! - The turns that are made here are good. With one worker, if no connections are looked for, the
@@ -73,6 +77,10 @@
 //!   entry, `IsFoundThreat` to the verdict of the checker.
 //! - A certificate that was found wins by its claimed line, a `move`: the board of this line's
 //!   scope is that with the stone. If it claims another line the plan rests on connections.
+//! - A cell that the look-ahead knows to win has a certificate if the solver has one of the board
+//!   after the stone, where less is to be shown than before it. Of this one is made by a `put` and
+//!   a `move` more, and checked, so nothing is proved of how. Such a turn keeps nothing of the
+//!   look-ahead: its plan has no allowed cells, of which the rows would be.
 //! - The certificate of a loss is made, then checked, so nothing is proved of how it is made. It is
 //!   cut from a full entry between the edges if there is one: of two or three threats that have no
 //!   cell in common the report makes one. Else it is an `or` of the threats that are needed. It is
@@ -89,6 +97,7 @@
 //!   law of certified moves needs it, and of a win no search's shape says it.
 #![tactic(auto)]
 
+mod after_stone;
 mod archives;
 mod collecting;
 mod edges;
@@ -106,12 +115,14 @@ mod report_texts;
 mod settings;
 mod shapes;
 mod solving;
+mod taking_back;
 mod texts;
 mod threats;
 mod turns;
 pub mod types;
 mod winning;
 
+pub use after_stone::plan_after;
 pub use archives::{Archive, NoArchive};
 pub use in_memory::MemArchive;
 pub use laws::{
@@ -122,7 +133,7 @@ pub use openings::may_move;
 pub use planning::plan;
 pub use plans::Planned;
 pub use refusals::{ArchiveFault, Memory};
-pub use settings::Means;
+pub use settings::{Means, SOLVE_AFTER};
 pub use shapes::turn_shape;
 pub use texts::{TurnTexts, turn_texts};
 pub use threats::{Threat, Threats};

@@ -5,7 +5,7 @@ ghost use Rattle.hex_board.specs.Joined.{winner_of};
 ghost use Rattle.hex_board.specs.Positions.{is_empty_at};
 ghost use Rattle.hsearch.specs.Closed.{IsReportOf};
 ghost use Rattle.hex_plan.specs.Plans.{AllowsEmpties, IsConnected, IsEdgeEntry, IsFree, IsPlanned};
-ghost use Rattle.hex_plan.specs.Plans.{IsLossOf, IsPlannedFor};
+ghost use Rattle.hex_plan.specs.Plans.{IsLossOf, IsPlannedFor, unlooked};
 ghost use Rattle.hex_plan.specs.Turns.{CanBeWritten};
 ghost use Rattle.hex_board.specs.Elements.{are_joined};
 ghost use Rattle.win_cert.specs.Cuts.{HasEdgeEntryAt};
@@ -28,8 +28,8 @@ use hsearch::{Report, connect};
 use std::alloc::Global;
 use win_cert::cut;
 
-/// What is planned with these means on the board for the player to move. No player is joined there,
-/// and a cell is empty.
+/// What is planned with these means on the board for the player to move, before a look-ahead. No
+/// player is joined there, and a cell is empty.
 ///
 /// Without a look for connections, the plan is a search among all empty cells. With it, the plan is
 /// a win if the player's report has an entry between his two edges. Otherwise a certificate of who
@@ -45,6 +45,7 @@ pub fn plan(alloc: Global, board: &Board, colour: Colour, means: Means) -> Resul
     requires room { (k : ℕ) × (is_empty_at board.now k ≡ true) }
     ensures planned { IfOk result (IsPlanned board.now colour means) }
     ensures allowed { IfOk result (λ planned. AllowsEmpties board.now planned.plan) }
+    ensures first { IfOk result (IsPlanned board.now colour (unlooked means)) }
     ensures written { IfOk result (λ planned. CanBeWritten planned.loss) }
 {
     if !means.hsearch {
@@ -69,7 +70,7 @@ fn unjoined_plan(
     requires nobody { winner_of board.now ≡ None }
     requires own { IsReportOf board.now colour own }
     requires unjoined { (a : Entry) → ¬ (IsEdgeEntry own a) }
-    ensures planned { IfOk result (IsPlannedFor board.now colour true solve) }
+    ensures planned { IfOk result (IsPlannedFor board.now colour true solve 0) }
     ensures within { IfOk result (λ planned. planned.entered ≤ solve) }
     ensures loss { IfOk result (λ planned. IsLossOf board.now colour planned.plan planned.loss) }
 {

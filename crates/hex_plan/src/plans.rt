@@ -1,6 +1,6 @@
 //! Plans, with the reports that they rest on.
 
-ghost use Rattle.std.specs.Prelude.{◌≡◌, ◌↔◌, IfSome, IsNone, option_map};
+ghost use Rattle.std.specs.Prelude.{◌≡◌, ◌↔◌, IfSome, IsNone, IsTrue, option_map};
 ghost use Rattle.hex_plan.specs.Plans.{IsSearchAmong, IsWin};
 ghost use Rattle.hex_plan.specs.Turns.{certificate_of};
 
@@ -20,11 +20,18 @@ pub struct Planned {
     /// Of a lost board a certificate that it is, if one was made: the other player wins whoever
     /// places first.
     pub loss: Option<Cert>,
-    /// How many positions the solver entered, whatever it found; 0 if it was not asked.
+    /// How many positions the solver entered in all, whatever it found; 0 if it was not asked.
     pub entered: u64,
 }
 
 impl Planned {
+    /// Whether the plan is a win.
+    pub fn is_win(&self) -> bool
+        ensures { IsTrue result ↔ IsWin self.now.plan }
+    {
+        matches!(self.plan, Plan::Win { .. })
+    }
+
     /// The cells among which is searched; `None` exactly if the plan is a win.
     pub fn allowed(&self) -> Option<CellSet>
         ensures win { IsNone result ↔ IsWin self.now.plan }

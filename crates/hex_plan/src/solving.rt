@@ -3,7 +3,7 @@
 ghost use Rattle.std.specs.Prelude.{◌≡◌, ◌≢◌, ◌≤◌, ◌∷◌, [], IfOk, IfSome, None};
 ghost use Rattle.hex_found.specs.Found.{IsFound};
 ghost use Rattle.hex_plan.specs.Planning.{IsFoundFor};
-ghost use Rattle.hex_plan.specs.Plans.{IsFoundPlan, IsLossOf};
+ghost use Rattle.hex_plan.specs.Plans.{IsFoundPlan, IsLossOf, IsWin};
 
 use super::refusals::Memory;
 use super::regions::empties_of;
@@ -81,11 +81,12 @@ fn plan_by(
     }
 }
 
-// The win by a certificate of the player to move that was found, if it claims a `move`.
-fn win_by(found: Found, board: &Board, colour: Colour) -> Option<FoundPlan>
+/// The win by a certificate of the player to move that was found, if it claims a `move`.
+pub(crate) fn win_by(found: Found, board: &Board, colour: Colour) -> Option<FoundPlan>
     requires found { IsFound board.now colour found }
     requires player { found.cert.player ≡ colour }
     ensures plan { IfSome result (λ found. IsFoundPlan board.now colour found.plan) }
+    ensures win { IfSome result (λ found. IsWin found.plan) }
     ensures loss { IfSome result (λ found. found.loss ≡ None) }
 {
     let cert = found.cert;

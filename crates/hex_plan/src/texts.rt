@@ -48,7 +48,7 @@ impl TurnTexts {
         }
     }
 
-    /// What the turn's look-ahead found; `None` exactly if it had none.
+    /// What the turn's look-ahead found; `None` exactly if the turn has none.
     pub fn look(&self) -> Option<&[u8]>
         ensures { option_map (λ text. text.now) result ≡ self.now.look }
     {

@@ -164,7 +164,7 @@ impl Turn {
         &self.planned
     }
 
-    /// What the look-ahead found, if there was one.
+    /// What the look-ahead found, if there was one and the plan is a search.
     pub fn looked(&self) -> Option<&Looked>
         ensures { option_map (λ looked. looked.now) result ≡ self.now.looked }
     {

@@ -1,5 +1,5 @@
-//! The seeds of turns, when no turn is made, and how many positions a plan took. What else is
-//! planned is shown by whole sessions, rows of session_tests.
+//! The seeds of turns, when no turn is made, how many positions a plan took, and a win by the stone
+//! of a look-ahead. What else is planned is shown by whole sessions, rows of session_tests.
 
 ghost use Rattle.std.specs.Prelude.{IfSome};
 ghost use Rattle.hex_board.specs.Positions.{AllEmpty};
@@ -7,9 +7,12 @@ ghost use Rattle.tree_words.specs.Settings.{IsAny};
 
 use hex_board::Board;
 use hex_cells::{Cell, CellSet, Colour, Size};
-use hex_plan::{Means, Planned, may_move, plan, turn_shape};
+use hex_plan::types::Plan;
+use hex_plan::{Means, Planned, may_move, plan, plan_after, turn_shape};
+use look_ahead::{Look, Root};
 use std::alloc::Global;
 use std::test::Fail;
+use std::thread::Threads;
 use tree_words::Knobs;
 
 // The empty cells of the board, if it has one.
@@ -100,6 +103,68 @@ fn plan_tells_how_many_positions_it_took(rt: HostRuntime) -> Result<(), Fail> {
         assert_eq!(rt; planned.entered, entered, "{hsearch} {solve}");
         let has_loss = planned.loss.is_some();
         assert_eq!(rt; has_loss, hsearch && 3 <= solve, "{hsearch} {solve}");
+    }
+    Ok(())
+}
+
+// What is planned for White on the board after a look-ahead, if a search was planned before.
+fn planned_after<R: Threads + Sync>(
+    rt: &R,
+    alloc: Global,
+    board: &Board,
+    means: Means,
+) -> Result<Planned, Fail> {
+    if !may_move(board) || means.look == 0 {
+        return Err(Fail::from("no look-ahead"));
+    }
+    let colour = Colour::White;
+    let Ok(planned) = plan(alloc, board, colour, means) else {
+        return Err(Fail::from("memory"));
+    };
+    let Some(allowed) = planned.allowed() else {
+        return Err(Fail::from("a win before"));
+    };
+    let Ok(mut look) = Look::make(alloc, 1) else {
+        return Err(Fail::from("memory"));
+    };
+    let root = Root { board, colour };
+    let Ok(looked) = look.choose(rt, alloc, &root, allowed, means.look) else {
+        return Err(Fail::from("memory"));
+    };
+    let Ok(after) = plan_after(alloc, board, colour, means, planned, &Some(looked)) else {
+        return Err(Fail::from("memory"));
+    };
+    Ok(after)
+}
+
+// The number of the cell of a win.
+fn won_number(plan: &Plan) -> Option<u32> {
+    match plan {
+        Plan::Win { cell, .. } => Some(cell.number()),
+        Plan::Search { .. } => None,
+    }
+}
+
+// After Black's e2 and c2 and White's d3 no connection joins White's edges, but c4, cell 20, wins,
+// as the look-ahead knows: of the solver's certificate of the board after it comes one of this
+// board.
+#[test]
+fn a_cell_that_looks_won_is_certified(rt: HostRuntime) -> Result<(), Fail> {
+    let size = Size::of(6).ok_or("a size")?;
+    let black = CellSet::none()
+        .with(Cell::at(size, 4, 1))
+        .with(Cell::at(size, 2, 1));
+    let board = Board::of(size, black, CellSet::none().with(Cell::at(size, 3, 2)));
+    for solve in [0, 1] {
+        let means = Means {
+            hsearch: true,
+            solve,
+            look: 50,
+        };
+        let planned = planned_after(&rt, rt.alloc(), &board, means)?;
+        assert!(rt; u64::from(solve) < planned.entered, "{solve}");
+        let won = won_number(&planned.plan).ok_or("a win")?;
+        assert_eq!(rt; won, 20, "{solve}");
     }
     Ok(())
 }

@@ -1,6 +1,6 @@
 -- The cells that are searched are empty.
 use Rattle.std.proofs.Common.{◌≡◌, ◌||◌, ◌==◌, not, ℕ, Bool, true, Option, None, Some, refl, sym, ap}
-use Rattle.std.proofs.Common.{◌∙◌, subst}
+use Rattle.std.proofs.Common.{◌∙◌, ◌⊎◌, inl, inr, subst}
 use Rattle.std.specs.Prelude.{is_some}
 use Rattle.std.proofs.lemmas.Bool.{eqb-true}
 use Rattle.hex_cells.specs.Sets.{has, with_cell}
@@ -10,7 +10,7 @@ use Rattle.hex_cells.proofs.WithCell.{has_with_cell}
 use Rattle.hex_board.specs.Positions.{AllEmpty, Position, is_empty_at}
 use Rattle.look_ahead.specs.Looked.{LookedData}
 use Rattle.hex_plan.specs.Good.{IsLookedFor}
-use Rattle.hex_plan.specs.Plans.{AllowsEmpties, IsSearchAmong}
+use Rattle.hex_plan.specs.Plans.{AllowsEmpties, IsSearchAmong, IsWin}
 use Rattle.hex_plan.specs.Turns.{ChoseAmong, IsLookedAt, searched_cells}
 use Rattle.hex_plan.specs.declared.types.Plan.{Plan}
 use Rattle.hex_plan.specs.declared.types.Plan.TheVariants.{Win, Search}
@@ -48,6 +48,11 @@ pub looked_for : (board : Position) (player : Colour) (plan : Plan) (allowed bud
 looked_for board player plan allowed budget looked among at cells is =
     subst (λ set. IsLookedAt board player set budget looked)
     (one_set plan allowed cells among is) at
+
+-- a plan after a look-ahead that is no win is the one before
+pub as_before : (plan new : Plan) → (IsWin new → ⊥) → IsWin new ⊎ (new ≡ plan) → new ≡ plan
+as_before plan new n (inl w) = absurd (n w)
+as_before plan new n (inr e) = e
 
 -- nobody is joined on a board on which a turn may be made
 pub nobody : {C : Type 0} (o : Option C) → not (is_some o) ≡ true → o ≡ None

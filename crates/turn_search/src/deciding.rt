@@ -9,7 +9,7 @@ ghost use Rattle.turn_search.specs.Owed.{IsOwed};
 
 use hex_board::Board;
 use hex_cells::{CellSet, Colour};
-use hex_plan::{Means, Memory, Turn, plan, turn_shape};
+use hex_plan::{Means, Memory, Turn, plan, plan_after, turn_shape};
 use look_ahead::{Look, Looked, Root};
 use search_team::{Gate, search};
 use std::alloc::Global;
@@ -48,10 +48,11 @@ impl KeptLook {
 }
 
 /// The turn after so many `turns` of a session, on this board with `colour` to move. It is planned
-/// with these means. If the plan is no win, it is searched among the cells that the plan allows, by
-/// the workers of the knobs, which pass the gate; or, if the means have a look-ahead, at the one of
-/// these cells that this chooses, which begins with what is kept. The search's seed is that of the
-/// knobs plus `turns·2^32`, modulo 2^64.
+/// with these means. If the plan is a search, a look-ahead, if the means have one, chooses one of
+/// the cells that the plan allows, and begins with what is kept; then it is planned once more, by
+/// [`plan_after`]. If the plan is still no win, it is searched, by the workers of the knobs, which
+/// pass the gate: at the cell that was chosen, or else among those that the plan allows. The
+/// search's seed is that of the knobs plus `turns·2^32`, modulo 2^64.
 ///
 /// No player is joined on the board, a cell is empty, and the knobs are in their ranges. It refuses
 /// only if memory runs out. The call returns if its workers do.
@@ -76,6 +77,10 @@ pub fn decided_turn<R: Threads + Sync, G: Gate + Sync>(
     };
     let root = Root { board, colour };
     let looked = looked_at(rt, alloc, &root, allowed, knobs.workers, means, kept)?;
+    let planned = plan_after(alloc, board, colour, means, planned, &looked)?;
+    if planned.is_win() {
+        return Ok(Turn::won(board, colour, turns, planned));
+    }
     let cells = searched_cells(allowed, &looked);
     let shape = turn_shape(board, colour, cells, knobs, turns);
     let Ok(closed) = search(rt, alloc, &shape, gate) else {

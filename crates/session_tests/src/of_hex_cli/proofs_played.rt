@@ -20,16 +20,14 @@ six-answers|boardsize 6~play b d3~play w d4~genmove b~|win|lost no~
 lost-four|boardsize 4~play b d1~genmove w~|lost yes~allowed a1|lost no~
 lost-five|boardsize 5~play b e2~genmove w~|lost yes~allowed a1|lost no~";
 
-/// What the look-ahead tells of five positions, the same on every machine: rows that are open,
-/// known to be won or lost, and only taken for it, each with its line. By hand no number can be
+/// What the look-ahead tells of four positions, the same on every machine: rows that are open,
+/// known to be lost, and only taken for won or lost, each with its line. By hand no number can be
 /// worked out; a search whose values are the other player's, or that leaves out visits, threats or
-/// bridges, has others.
+/// bridges, has others. Of the first position it knows a cell to be won; that is certified.
 static LOOKS: &str = "\
 look-won-by-one|htp --playouts 1 --look 50|\
-    boardsize 5~play b d1~play w b3~play b a4~genmove w~look-report~|0|\
-    = ~~= ~~= ~~= ~~= c2~~= nodes 18~c2 1 1000 won~d2 4 543 line a3 a5 b4~c3 2 380 line a3~\
-    d3 2 520 line a3~b4 0 586~c4 8 737 line b4 c2 a3 b1~d4 0 586~a5 0 586~b5 0 586~c5 0 586~\
-    d5 0 586~~
+    boardsize 5~play b d1~play w b3~play b a4~genmove w~mustplay~look-report~search-report~|0|\
+    = ~~= ~~= ~~= ~~= c2~~= win c2~~? no look~~? no search~~
 look-lost-after-three|htp --playouts 1 --look 50|\
     boardsize 5~play b e4~play w e3~play b e1~genmove w~look-report~|0|\
     = ~~= ~~= ~~= ~~= d2~~= nodes 16~d2 9 0 line c2 c3~d3 1 0 lost~c4 2 0 line b4~\
@@ -102,6 +100,31 @@ fn plays_what_it_proves(rt: HostRuntime) -> Result<(), Fail> {
         check(&rt, name, &ample("check", text.as_bytes()), verdict, 0)?;
         let (mustplay, _none) = played(&rt, "htp --playouts 9", commands)?;
         assert!(rt; mustplay.as_bytes().starts_with(&unsolved), "{name}");
+    }
+    Ok(())
+}
+
+/// A cell that the look-ahead knows to be won is played with a certificate, also without `--solve`;
+/// H-search alone shows no win there, and nor does the solver before the stone.
+#[test]
+fn certifies_what_looks_won(rt: HostRuntime) -> Result<(), Fail> {
+    let commands = "boardsize 6~play b e2~play w d3~play b c2~genmove w~";
+    let (before, _none) = played(&rt, "htp --playouts 1 --solve 1", commands)?;
+    assert!(rt; before.starts_with("lost no\n"));
+    for words in [
+        "htp --playouts 1 --look 50",
+        "htp --playouts 1 --look 50 --solve 1",
+    ] {
+        let (mustplay, certificate) = played(&rt, words, commands)?;
+        assert_eq!(rt; mustplay.as_str(), "win c4", "{words}");
+        let text = format!(in rt.alloc(); "{certificate}\n")?;
+        check(
+            &rt,
+            words,
+            &ample("check", text.as_bytes()),
+            b"yes semi\n",
+            0,
+        )?;
     }
     Ok(())
 }

@@ -5,35 +5,47 @@ use Rattle.std.proofs.lemmas.Bool.{not-false}
 use Rattle.hex_board.specs.Elements.{PlayerBoard}
 use Rattle.hex_plan.specs.Plans.{IsConnected}
 use Rattle.hex_plan.proofs.Allowing.{if_allows}
-use Rattle.hex_plan.proofs.Sought.{if_planned, if_sought, if_written, no_loss, none_within}
+use Rattle.hex_plan.proofs.Sought.{if_planned, if_planned_more, if_sought, if_written, no_loss}
+use Rattle.hex_plan.proofs.Sought.{none_within}
 use Rattle.hex_plan.proofs.planning.plan.Goals as goal
 
-pub returns-in-Some-clause-planned : goal.returns-in-Some-clause-planned
-returns-in-Some-clause-planned c =
+pub returns-in-Some-clause-first : goal.returns-in-Some-clause-first
+returns-in-Some-clause-first c =
     let solve = c.args.means.solve in
     if_planned c.args.means c.args.board.now c.args.colour c.win_plan.result
     (not-false c.args.means.hsearch c.if-not-means.false)
-    (if_sought solve c.args.board.now c.args.colour c.win_plan.result
-    (subst (λ (e : PlayerBoard). IfOk c.win_plan.result (IsConnected e.board e.player)) c.in_ok-own.ensures.elements c.win_plan.ensures.connected))
+    (if_sought solve 0 c.args.board.now c.args.colour c.win_plan.result
+    (subst (λ (e : PlayerBoard). IfOk c.win_plan.result (IsConnected e.board e.player))
+    c.in_ok-own.ensures.elements c.win_plan.ensures.connected))
     (none_within solve c.win_plan.result c.win_plan.ensures.none)
     (no_loss c.args.board.now c.args.colour c.win_plan.result c.win_plan.ensures.loss)
+
+pub returns-in-Some-clause-planned : goal.returns-in-Some-clause-planned
+returns-in-Some-clause-planned c = if_planned_more c.args.means c.args.board.now c.args.colour
+    c.win_plan.result (returns-in-Some-clause-first c)
 
 pub returns-in-Some-clause-allowed : goal.returns-in-Some-clause-allowed
 returns-in-Some-clause-allowed c =
     let solve = c.args.means.solve in
-    if_allows c.args.board.now c.args.colour true solve c.win_plan.result c.requires.room
-    (if_sought solve c.args.board.now c.args.colour c.win_plan.result
-    (subst (λ (e : PlayerBoard). IfOk c.win_plan.result (IsConnected e.board e.player)) c.in_ok-own.ensures.elements c.win_plan.ensures.connected))
+    if_allows c.args.board.now c.args.colour true solve 0 c.win_plan.result c.requires.room
+    (if_sought solve 0 c.args.board.now c.args.colour c.win_plan.result
+    (subst (λ (e : PlayerBoard). IfOk c.win_plan.result (IsConnected e.board e.player))
+    c.in_ok-own.ensures.elements c.win_plan.ensures.connected))
 
-pub returns-in-None-clause-planned : goal.returns-in-None-clause-planned
-returns-in-None-clause-planned c =
+pub returns-in-None-clause-first : goal.returns-in-None-clause-first
+returns-in-None-clause-first c =
     if_planned c.args.means c.args.board.now c.args.colour c.unjoined_plan.result
     (not-false c.args.means.hsearch c.if-not-means.false)
     c.unjoined_plan.ensures.planned c.unjoined_plan.ensures.within c.unjoined_plan.ensures.loss
 
+pub returns-in-None-clause-planned : goal.returns-in-None-clause-planned
+returns-in-None-clause-planned c = if_planned_more c.args.means c.args.board.now c.args.colour
+    c.unjoined_plan.result (returns-in-None-clause-first c)
+
 pub returns-in-None-clause-allowed : goal.returns-in-None-clause-allowed
 returns-in-None-clause-allowed c
-    = if_allows c.args.board.now c.args.colour true c.args.means.solve c.unjoined_plan.result c.requires.room c.unjoined_plan.ensures.planned
+    = if_allows c.args.board.now c.args.colour true c.args.means.solve 0
+    c.unjoined_plan.result c.requires.room c.unjoined_plan.ensures.planned
 
 pub returns-in-Some-clause-written : goal.returns-in-Some-clause-written
 returns-in-Some-clause-written c = if_written c.args.board.now c.args.colour c.win_plan.result
