@@ -107,22 +107,35 @@ fn a_seventh_semi_entry_finds_the_pair_full(rt: HostRuntime) {
     }
 }
 
+// Adds the entry that follows from two entries by the rule of OR, and counts its cells.
+fn add_or_two(rt: &impl Abort, store: &mut Store, i: u32, j: u32) -> (Put, u32) {
+    let count = store.entries().len();
+    assert!(rt; (i as usize) < count && (j as usize) < count);
+    let entry = store.by_or_two(i, j).expect(rt, "the rule of OR applies");
+    let cells = entry.carrier.count();
+    (store.add(entry), cells)
+}
+
+// The same of three entries.
+fn add_or_three(rt: &impl Abort, store: &mut Store, i: u32, j: u32, k: u32) -> (Put, u32) {
+    let count = store.entries().len();
+    assert!(rt; (i as usize) < count && (j as usize) < count && (k as usize) < count);
+    let entry = store
+        .by_or_three(i, j, k)
+        .expect(rt, "the rule of OR applies");
+    let cells = entry.carrier.count();
+    (store.add(entry), cells)
+}
+
 #[test]
 fn two_or_three_ways_make_a_full_entry(rt: HostRuntime) {
     let mut store = store_of(&rt, rt.alloc(), 11, 7);
     add_columns(&rt, &mut store, 3);
     add_ways(&rt, &mut store, 3);
     assert_eq!(rt; store.entries().len(), 9);
-    let three = store
-        .by_or_three(6, 7, 8)
-        .expect(&rt, "the rule of OR applies");
-    assert_eq!(rt; three.carrier.count(), 3);
-    assert_eq!(rt; store.add(three), Put::Added(9));
-    let two = store.by_or_two(6, 7).expect(&rt, "the rule of OR applies");
-    assert_eq!(rt; two.carrier.count(), 2);
-    assert_eq!(rt; store.add(two), Put::Added(10));
+    assert_eq!(rt; add_or_three(&rt, &mut store, 6, 7, 8), (Put::Added(9), 3));
+    assert_eq!(rt; add_or_two(&rt, &mut store, 6, 7), (Put::Added(10), 2));
     assert_eq!(rt; store.entries().len(), 11);
     assert!(rt; store.by_or_two(6, 6).is_none());
-    let again = store.by_or_two(7, 6).expect(&rt, "the rule of OR applies");
-    assert_eq!(rt; store.add(again), Put::Dominated);
+    assert_eq!(rt; add_or_two(&rt, &mut store, 7, 6), (Put::Dominated, 2));
 }

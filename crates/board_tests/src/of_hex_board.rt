@@ -12,7 +12,7 @@ use std::test::Fail;
 const MOST: usize = 4;
 
 // The cell of the board at a column and row, which the board must have.
-fn cell_at(rt: &impl Abort, size: Size, column: u32, row: u32) -> Cell
+pub(crate) fn cell_at(rt: &impl Abort, size: Size, column: u32, row: u32) -> Cell
     ensures { result < size * size }
 {
     assert!(rt; column < size.get() && row < size.get());
@@ -149,6 +149,22 @@ fn a_full_board_has_one_winner(rt: HostRuntime) -> Result<(), Fail> {
     Ok(())
 }
 
+// The stone of the group a2 to g2, Black's element 13, in a column, and the cell above it.
+fn check_column(rt: &impl Abort, board: &Board, column: u8) {
+    let elements = board.elements(Colour::Black);
+    let stone = cell_at(rt, board.size(), u32::from(column), 1);
+    let above = cell_at(rt, board.size(), u32::from(column), 0);
+    let (x, y) = (13, column.saturating_add(2));
+    assert_eq!(rt;
+        (elements.of(stone), elements.of(above)),
+        (Some(x), Some(y))
+    );
+    assert!(rt; u32::from(x) < elements.count() && u32::from(y) < elements.count());
+    assert!(rt; elements.near(x, y) && elements.near(y, x) && !elements.near(x, x));
+    assert!(rt; elements.near(y, elements.edge(false)) && !elements.near(x, elements.edge(false)));
+    assert_eq!(rt; (elements.cell(x), elements.cell(y)), (None, Some(above)));
+}
+
 #[test]
 fn elements_of_a_row(rt: HostRuntime) -> Result<(), Fail> {
     let size = Size::of(11).ok_or("a size")?;
@@ -163,17 +179,7 @@ fn elements_of_a_row(rt: HostRuntime) -> Result<(), Fail> {
     assert_eq!(rt; elements.count(), 2 + 1 + 113);
     assert_eq!(rt; (elements.edge(false), elements.edge(true)), (0, 1));
     for column in 0..7 {
-        let stone = cell_at(&rt, board.size(), column, 1);
-        let above = cell_at(&rt, board.size(), column, 0);
-        assert_eq!(rt; elements.of(stone), Some(13));
-        assert_eq!(rt; elements.of(above), Some(column as u8 + 2));
-        let x = 13;
-        let y = column as u8 + 2;
-        assert!(rt; u32::from(x) < elements.count() && u32::from(y) < elements.count());
-        assert!(rt; elements.near(x, y) && elements.near(y, x) && !elements.near(x, x));
-        assert!(rt; elements.near(y, elements.edge(false)));
-        assert!(rt; !elements.near(x, elements.edge(false)));
-        assert!(rt; elements.cell(x).is_none() && elements.cell(y) == Some(above));
+        check_column(&rt, &board, column);
     }
     Ok(())
 }
@@ -274,6 +280,30 @@ const CASES: [Case; 4] = [
     },
 ];
 
+// A cell is of this element, if it is of one, which has the cell, and is it if there is no stone.
+fn check_cell(rt: &impl Abort, board: &Board, player: Colour, place: u32, wanted: Option<u8>) {
+    let cell = cell_at(rt, board.size(), place % 3, place / 3);
+    let elements = board.elements(player);
+    let element = elements.of(cell);
+    assert_eq!(rt; element, wanted);
+    if let Some(x) = element {
+        let alone = match board.at(cell) {
+            None => Some(cell),
+            Some(_) => None,
+        };
+        assert_eq!(rt; elements.cell(x), alone);
+        assert!(rt; elements.cells(x).has(cell));
+    }
+}
+
+// These pairs are neighbours both ways round, or not.
+fn check_pairs(rt: &impl Abort, elements: &Elements, pairs: &[(u8, u8)], wanted: bool) {
+    for (x, y) in pairs {
+        assert_eq!(rt; are_near(rt, elements, *x, *y), wanted);
+        assert_eq!(rt; are_near(rt, elements, *y, *x), wanted);
+    }
+}
+
 #[test]
 fn elements_on_size_three(rt: HostRuntime) -> Result<(), Fail> {
     let size = Size::of(3).ok_or("a size")?;
@@ -283,33 +313,13 @@ fn elements_on_size_three(rt: HostRuntime) -> Result<(), Fail> {
             put(&rt, &mut board, *colour, *column, *row);
         }
         let elements = board.elements(case.player);
-        assert_eq!(rt;
-            (elements.edge(false), elements.edge(true)),
-            (0, case.second_edge)
-        );
-        let wanted = case.elements;
-        for row in 0..3 {
-            for column in 0..3 {
-                let cell = cell_at(&rt, board.size(), column, row);
-                let element = elements.of(cell);
-                assert_eq!(rt; element, wanted[(3 * row + column) as usize]);
-                if let Some(x) = element {
-                    let alone = if board.at(cell).is_none() {
-                        Some(cell)
-                    } else {
-                        None
-                    };
-                    assert_eq!(rt; elements.cell(x), alone);
-                    assert!(rt; elements.cells(x).has(cell));
-                }
-            }
+        let edges = (elements.edge(false), elements.edge(true));
+        assert_eq!(rt; edges, (0, case.second_edge));
+        for (place, wanted) in (0..9).zip(case.elements) {
+            check_cell(&rt, &board, case.player, place, wanted);
         }
-        for (x, y) in case.near {
-            assert!(rt; are_near(&rt, &elements, *x, *y) && are_near(&rt, &elements, *y, *x));
-        }
-        for (x, y) in case.apart {
-            assert!(rt; !are_near(&rt, &elements, *x, *y) && !are_near(&rt, &elements, *y, *x));
-        }
+        check_pairs(&rt, &elements, case.near, true);
+        check_pairs(&rt, &elements, case.apart, false);
     }
     Ok(())
 }

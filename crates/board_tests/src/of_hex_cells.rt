@@ -1,9 +1,11 @@
 //! What no clause says of itself: vectors from outside, and each public call once.
 
+use super::of_hex_board::cell_at;
 use hex_cells::{
     Cell, CellSet, Colour, DECIMAL_LEN, MOST_CELLS, Size, VERTEX_LEN, edge, neighbours,
     push_number, read_vertex, write_decimal, write_vertex,
 };
+use std::process::Abort;
 use std::rt::HostRuntime;
 use std::test::Fail;
 
@@ -84,37 +86,45 @@ fn board_graph(rt: HostRuntime) -> Result<(), Fail> {
     assert!(rt; Size::of(0).is_none() && Size::of(12).is_none());
     let size = Size::of(3).ok_or("a size")?;
     assert_eq!(rt; (size.get(), size.cells()), (3, 9));
-    let corner = neighbours(Cell::at(size, 0, 0), size);
-    assert_eq!(rt; corner.count(), 2);
-    assert!(rt; corner.has(Cell::at(size, 1, 0)) && corner.has(Cell::at(size, 0, 1)));
+    let corner = neighbours(cell_at(&rt, size, 0, 0), size);
+    let beside = set_of(&rt, size, &[(1, 0), (0, 1)]);
+    assert_eq!(rt; (corner.count(), corner), (2, beside));
     // The middle has all but the two corners that lie in its own diagonal.
-    let middle = neighbours(Cell::at(size, 1, 1), size);
-    let apart = CellSet::none()
-        .with(Cell::at(size, 0, 0))
-        .with(Cell::at(size, 2, 2));
-    assert_eq!(rt;
-        middle.union(apart).with(Cell::at(size, 1, 1)),
-        CellSet::all(size)
-    );
+    let centre = cell_at(&rt, size, 1, 1);
+    let middle = neighbours(centre, size);
+    let apart = set_of(&rt, size, &[(0, 0), (1, 1), (2, 2)]);
+    assert_eq!(rt; middle, CellSet::all(size).minus(apart));
     assert_eq!(rt; middle.count(), 6);
-    let last_row = edge(Colour::Black, true, size);
-    let last_column = edge(Colour::White, true, size);
-    assert_eq!(rt;
-        last_row.meet(last_column),
-        CellSet::none().with(Cell::at(size, 2, 2))
-    );
-    assert!(rt; edge(Colour::Black, false, size).has(Cell::at(size, 1, 0)));
-    assert!(rt; edge(Colour::White, false, size).has(Cell::at(size, 0, 1)));
-    assert!(rt; CellSet::none().with(Cell::at(size, 1, 1)).around(size) == middle);
-    assert!(rt; Colour::Black.other() == Colour::White && Colour::White.other() == Colour::Black);
+    assert_eq!(rt; CellSet::none().with(centre).around(size), middle);
     Ok(())
+}
+
+#[test]
+fn board_edges(rt: HostRuntime) -> Result<(), Fail> {
+    let size = Size::of(3).ok_or("a size")?;
+    let (black, white) = (Colour::Black, Colour::White);
+    assert_eq!(rt; (black.other(), white.other()), (white, black));
+    let both = edge(black, true, size).meet(edge(white, true, size));
+    assert_eq!(rt; both, set_of(&rt, size, &[(2, 2)]));
+    assert!(rt; edge(black, false, size).has(cell_at(&rt, size, 1, 0)));
+    assert!(rt; edge(white, false, size).has(cell_at(&rt, size, 0, 1)));
+    Ok(())
+}
+
+// The cells at these columns and rows.
+fn set_of(rt: &impl Abort, size: Size, cells: &[(u32, u32)]) -> CellSet {
+    let mut set = CellSet::none();
+    for (column, row) in cells {
+        set = set.with(cell_at(rt, size, *column, *row));
+    }
+    set
 }
 
 #[test]
 fn sets(rt: HostRuntime) -> Result<(), Fail> {
     let size = Size::of(11).ok_or("a size")?;
-    let low = Cell::at(size, 0, 0);
-    let high = Cell::at(size, 10, 10);
+    let low = cell_at(&rt, size, 0, 0);
+    let high = cell_at(&rt, size, 10, 10);
     assert_eq!(rt;
         (high.number(), high.column(size), high.row(size)),
         (120, 10, 10)
@@ -123,12 +133,20 @@ fn sets(rt: HostRuntime) -> Result<(), Fail> {
     assert_eq!(rt; (both.count(), both.rank(high), both.rank(low)), (2, 1, 0));
     assert_eq!(rt; (both.least(), CellSet::none().least()), (Some(low), None));
     assert_eq!(rt; both.without(low), both.minus(CellSet::none().with(low)));
-    assert!(rt; both.inside(CellSet::all(size)) && !CellSet::all(size).inside(both));
-    assert!(rt; both.meets(CellSet::all(size)) && !both.meets(CellSet::none()));
-    assert!(rt; CellSet::none().is_empty() && !both.is_empty());
-    let all = CellSet::all(size);
+    Ok(())
+}
+
+#[test]
+fn all_cells(rt: HostRuntime) -> Result<(), Fail> {
+    let size = Size::of(11).ok_or("a size")?;
+    let (none, all) = (CellSet::none(), CellSet::all(size));
+    let both = set_of(&rt, size, &[(0, 0), (10, 10)]);
+    assert!(rt; both.inside(all) && !all.inside(both));
+    assert!(rt; both.meets(all) && !both.meets(none));
+    assert!(rt; none.is_empty() && !both.is_empty());
     assert_eq!(rt; all.count(), MOST_CELLS);
-    assert_eq!(rt; (all.nth(0), all.nth(120)), (low, high));
+    let ends = CellSet::none().with(all.nth(0)).with(all.nth(120));
+    assert_eq!(rt; ends, both);
     Ok(())
 }
 
