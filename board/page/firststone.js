@@ -2,7 +2,7 @@
 // What is known of Black's first stone: by the certificates of openings/ who wins, and how their player answers; where there
 // are none, what hexd's look-ahead guessed once (board/guessed.json).
 
-// Of greater boards there are no certificates of openings, and of smaller ones than this none either.
+// Of greater boards few openings have certificates, and of smaller ones than this none has.
 const LARGEST_MAP = 7, SMALLEST_MAP = 3;
 // A long certificate is read in parts of so many lines, between which the page goes on.
 const LINES_AT_ONCE = 2_000;
