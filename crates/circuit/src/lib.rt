@@ -28,6 +28,8 @@
 //! - Elements are taken out from the last one down, each by the star-mesh rule: a node with wires
 //!   a, b, .. of the sum G gives way to a wire of a·b/G between each two of its neighbours. What is
 //!   left in its row are the shares a/G, from which the potentials follow upwards.
+//! - Rows are worked off by whole eights, as the processor does. What that adds behind an element's
+//!   own place is of no account there, and put to 0 before it counts.
 //! - The numbers fit: the wires of a node add up to less than 2^31 (122 of at most 10,485,760), and
 //!   a mesh makes no sum greater than that of the star was. No proof rests on that: a product is
 //!   cut to its 32 bits, and a sum stops at the greatest number.
