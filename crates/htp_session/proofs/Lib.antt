@@ -5,7 +5,7 @@
 --    and Sessions.antt; of these only private clauses cite the last two.
 -- 2. One line: src/answering.rt and asking.rt, and in src/session.rt `advance` and `last`.
 --    proofs/Speaking (what is said at once, and what is asked over the devices), TalkLaws (a talk
---    goes on by one line), EndedLines, LastLines, KeptOptions, MoreLeft, SupplyLaws (what is left
+--    goes on by one line), EndedLines, LastLines, TakenTurns, MoreLeft, SupplyLaws (what is left
 --    after it is not looked at), UsageLaws, Advances.
 -- 3. One piece of input: `take` and `feed` in src/session.rt, src/holding.rt (what was answered and
 --    not given yet); proofs/Pieces, Given, Feeding, Calling.
@@ -30,7 +30,6 @@ mod Keeping
 mod Ends
 mod BrokenEnds
 mod EndLaws
-mod KeptOptions
 mod MoreLeft
 mod UsageLaws
 mod Advances

@@ -15,8 +15,8 @@ use Rattle.hex_engine.specs.Replies.{Turned, Missing}
 use Rattle.hex_engine.specs.Requests.{reaction}
 use Rattle.htp_session.specs.Talk.{TalkState, IsThrough, goes_on, after_reaction, after_reading}
 use Rattle.htp_session.specs.Talk.{after_line, followed_by, with_line, talk_start, talk}
-use Rattle.htp_session.specs.Laws.{IsAnswered}
-use Rattle.htp_session.proofs.OneWorkerLoads.{SameLoads, equal_loads, told_loads}
+use Rattle.htp_session.specs.Laws.{IsAnswered, SaySame}
+use Rattle.htp_session.proofs.OneWorkerLoads.{told_loads}
 use Rattle.htp_session.proofs.OneWorkerMoves.{Alike, Agree, reactions_agree}
 use Rattle.htp_session.proofs.TalkLaws.{step-stays}
 
@@ -92,74 +92,31 @@ lines_same options s b (raw ∷ lines) one h p q =
     subst (λ (z : TalkState). SaysSame options (fold with_line (with_line s raw) lines) (fold with_line z lines)) (sym same.is)
     (lines_same options (with_line s raw) next.left lines one same.left p (subst (λ (z : TalkState). IsAnswered (fold with_line z lines)) same.is q))
 
-talk_same : (start : EngineState) (one other : Supply) (lines : List (List ℕ))
-    → HasOneWorker start.options → SameLoads one.loads other.loads → AreGood start.options one.turns
-    → AreGood start.options other.turns
-    → IsAnswered (talk start one lines) → IsAnswered (talk start other lines)
-    → SaysSame start.options (talk start one lines) (talk start other lines)
-talk_same start one other lines worker e g h p q
-    = lines_same start.options (talk_start start one) other lines worker
-    (record { loads = e; good = g; other = h }) p q
-
 -- with one worker two answered talks are the same but for what is left
-answered_same : (start : EngineState) → HasOneWorker start.options → (one other : Supply)
-    → SameLoads one.loads other.loads → AreGood start.options one.turns
-    → AreGood start.options other.turns → (lines : List (List ℕ))
+pub answered_same : (start : EngineState) (one other : Supply) (lines : List (List ℕ))
+    → HasOneWorker start.options → Alike start.options one other
     → IsAnswered (talk start one lines) → IsAnswered (talk start other lines)
-    → ((talk start one lines).text ≡ (talk start other lines).text)
-    × ((talk start one lines).at ≡ (talk start other lines).at)
-answered_same start worker one other e g h lines p q =
-    let same = talk_same start one other lines worker e g h p q in (
-      sym (ap (λ (s : TalkState). s.text) same.is),
-      sym (ap (λ (s : TalkState). s.at) same.is),
-    )
+    → SaySame (talk start one lines) (talk start other lines)
+answered_same start one other lines worker alike p q =
+    let same = lines_same start.options (talk_start start one) other lines worker alike p q in
+    (sym (ap (λ (s : TalkState). s.text) same.is), sym (ap (λ (s : TalkState). s.at) same.is))
 
 -- with one worker two talks that are through are the same
-through_same : (start : EngineState) → HasOneWorker start.options → (one other : Supply)
-    → SameLoads one.loads other.loads → AreGood start.options one.turns
-    → AreGood start.options other.turns → (lines : List (List ℕ))
+pub through_same : (start : EngineState) (one other : Supply) (lines : List (List ℕ))
+    → HasOneWorker start.options → Alike start.options one other
     → IsThrough (talk start one lines) → IsThrough (talk start other lines)
     → talk start one lines ≡ talk start other lines
-through_same start worker one other e g h lines p q =
-    let same = talk_same start one other lines worker e g h p.answered q.answered in
+through_same start one other lines worker alike p q =
+    let same = lines_same start.options (talk_start start one) other lines worker alike p.answered q.answered in
     sym (same.is ∙ ap (with_left (talk start one lines)) (q.used ∙ sym p.used))
 
--- ---- where the loads of both are equal
-
-pub answered_equal : (start : EngineState) → HasOneWorker start.options → (one other : Supply)
-    → one.loads ≡ other.loads → AreGood start.options one.turns → AreGood start.options other.turns
-    → (lines : List (List ℕ))
-    → IsAnswered (talk start one lines) → IsAnswered (talk start other lines)
-    → ((talk start one lines).text ≡ (talk start other lines).text)
-    × ((talk start one lines).at ≡ (talk start other lines).at)
-answered_equal start worker one other e
-    = answered_same start worker one other (equal_loads one.loads other.loads e)
-
-pub through_equal : (start : EngineState) → HasOneWorker start.options → (one other : Supply)
-    → one.loads ≡ other.loads → AreGood start.options one.turns → AreGood start.options other.turns
-    → (lines : List (List ℕ))
-    → IsThrough (talk start one lines) → IsThrough (talk start other lines)
-    → talk start one lines ≡ talk start other lines
-through_equal start worker one other e
-    = through_same start worker one other (equal_loads one.loads other.loads e)
-
--- ---- where the loads of both came of the same files and faults
-
-pub answered_told : (start : EngineState) → HasOneWorker start.options → (files : List File)
-    → (tries : List Bool) → (one other : Supply) → CameOf files tries one.loads
-    → CameOf files tries other.loads
-    → AreGood start.options one.turns → AreGood start.options other.turns → (lines : List (List ℕ))
-    → IsAnswered (talk start one lines) → IsAnswered (talk start other lines)
-    → ((talk start one lines).text ≡ (talk start other lines).text)
-    × ((talk start one lines).at ≡ (talk start other lines).at)
-answered_told start worker files tries one other c d
-    = answered_same start worker one other (told_loads files tries one.loads other.loads c d)
-
+-- the same, where the loads of both came of the same files and faults
 pub through_told : (start : EngineState) → HasOneWorker start.options → (files : List File)
     → (tries : List Bool) → (one other : Supply) → CameOf files tries one.loads
     → CameOf files tries other.loads
     → AreGood start.options one.turns → AreGood start.options other.turns → (lines : List (List ℕ))
     → IsThrough (talk start one lines) → IsThrough (talk start other lines)
     → talk start one lines ≡ talk start other lines
-through_told start worker files tries one other c d
-    = through_same start worker one other (told_loads files tries one.loads other.loads c d)
+through_told start worker files tries one other c d good fine lines
+    = through_same start one other lines worker
+    (record { loads = told_loads files tries one.loads other.loads c d; good = good; other = fine })

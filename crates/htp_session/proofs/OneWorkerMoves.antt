@@ -126,7 +126,11 @@ moves_agree options at a b (t ∷ turns) (u ∷ others) colour one e g h
         (cond x (unused (record a { turns = turns }) (turned at colour t)) (Err NoTurn))
         (cond y (unused (record b { turns = others }) (turned at colour u)) (Err NoTurn))
     by true true p q
-        = (ap (λ (r : Reaction). record { reply = r.reply; after = r.after; left = record b { turns = others } }) (same_move options at colour t u one g.0 h.0 p q), record { loads = e; good = g.1; other = h.1 })
+        = (
+          ap (λ (r : Reaction). record { reply = r.reply; after = r.after; left = record b { turns = others } })
+              (same_move options at colour t u one g.0 h.0 p q),
+          record { loads = e; good = g.1; other = h.1 },
+        )
     by true false p q = tt
     by false y p q = tt
 

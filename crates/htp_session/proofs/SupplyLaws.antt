@@ -19,7 +19,7 @@ use Rattle.htp_session.specs.Laws.{IsAnswered}
 use Rattle.htp_session.specs.Supply.{with_more_left}
 use Rattle.htp_session.specs.Sessions.{IsSessionAfter}
 use Rattle.htp_session.proofs.TalkLaws.{step-stays}
-use Rattle.htp_session.proofs.KeptOptions.{KeepsOptions, reaction_keeps}
+use Rattle.htp_session.proofs.TakenTurns.{KeepsOptions, reaction_keeps}
 use Rattle.htp_session.proofs.MoreLeft.{HasAll, leaving_more, reaction_more}
 
 -- ---- a talk keeps its options

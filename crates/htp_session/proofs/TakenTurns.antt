@@ -1,4 +1,4 @@
--- Whether an answered request takes a turn.
+-- Whether an answered request takes a turn, and that it keeps the options.
 use Rattle.std.proofs.Common.{◌≡◌, ℕ, Bool, true, false, cond, List, [], ◌∷◌, Option, Some, None}
 use Rattle.std.proofs.Common.{Result, Ok, Err, ◌⊎◌, inl, inr, refl}
 use Rattle.std.specs.Str.{bytes_eq}
@@ -35,52 +35,71 @@ MayTakeTurn at left (Ok t)
     = ((t.left.turns ≡ left.turns) × (t.after.turns ≡ at.turns)) ⊎ TakesTurn at left t
 MayTakeTurn at left (Err missing) = Unit {0}
 
-loaded_turns : (at : EngineState) (what : Loaded) → (loaded at what).after.turns ≡ at.turns
-loaded_turns at Unread = refl
-loaded_turns at Refused = refl
-loaded_turns at (Loads game) = refl
+-- the options are kept, where there is an answer
+abbrev pub KeepsOptions : EngineState → Result Turned Missing → Type 0
+KeepsOptions at (Ok t) = t.after.options ≡ at.options
+KeepsOptions at (Err missing) = Unit {0}
+
+-- both
+abbrev pub TakesAndKeeps : EngineState → Supply → Result Turned Missing → Type 0
+TakesAndKeeps at left r = MayTakeTurn at left r × KeepsOptions at r
+
+loaded_keeps : (at : EngineState) (what : Loaded)
+    → ((loaded at what).after.turns ≡ at.turns) × ((loaded at what).after.options ≡ at.options)
+loaded_keeps at Unread = (refl, refl)
+loaded_keeps at Refused = (refl, refl)
+loaded_keeps at (Loads game) = (refl, refl)
 
 either_takes : (b : Bool) (at : EngineState) (left : Supply) (r s : Result Turned Missing)
-    → (b ≡ true → MayTakeTurn at left r) → MayTakeTurn at left s → MayTakeTurn at left (cond b r s)
+    → (b ≡ true → TakesAndKeeps at left r) → TakesAndKeeps at left s
+    → TakesAndKeeps at left (cond b r s)
 either_takes true at left r s p q = p refl
 either_takes false at left r s p q = q
 
 loading_next_takes : (at : EngineState) (left : Supply) (loads : List Load) (name : List ℕ)
-    → MayTakeTurn at left (loading_next at left loads name)
-loading_next_takes at left [] name = tt
+    → TakesAndKeeps at left (loading_next at left loads name)
+loading_next_takes at left [] name = (tt, tt)
 loading_next_takes at left (load ∷ loads) name = either_takes (bytes_eq load.name name) at left _ _
-    (λ e. inl (refl, loaded_turns at load.what)) tt
+    (λ e. let kept = loaded_keeps at load.what in (inl (refl, kept.0), kept.1)) (tt, tt)
 
 loading_takes : (at : EngineState) (left : Supply) (name : Option (List ℕ))
-    → MayTakeTurn at left (loading_by at left name)
-loading_takes at left None = inl (refl, refl)
+    → TakesAndKeeps at left (loading_by at left name)
+loading_takes at left None = (inl (refl, refl), refl)
 loading_takes at left (Some name) = loading_next_takes at left left.loads name
 
 moving_next_takes : (at : EngineState) (left : Supply) (turns : List TurnData) (colour : Colour)
-    → left.turns ≡ turns → MayTakeTurn at left (moving_next at left turns colour)
-moving_next_takes at left [] colour was = tt
+    → left.turns ≡ turns → TakesAndKeeps at left (moving_next at left turns colour)
+moving_next_takes at left [] colour was = (tt, tt)
 moving_next_takes at left (turn ∷ turns) colour was =
     either_takes (is_next at colour turn) at left _ _
-    (λ e. inr (record { turn = turn; colour = colour; was = was; next = e; after = refl; reply = refl })) tt
+    (λ e. (
+      inr (record { turn = turn; colour = colour; was = was; next = e; after = refl; reply = refl }),
+      refl,
+    )) (tt, tt)
 
 moving_by_takes : (at : EngineState) (left : Supply) (colour : Option Colour)
-    → MayTakeTurn at left (moving_by at left colour)
-moving_by_takes at left None = inl (refl, refl)
+    → TakesAndKeeps at left (moving_by at left colour)
+moving_by_takes at left None = (inl (refl, refl), refl)
 moving_by_takes at left (Some colour) = either_takes (may_move (board_of at.game)) at left _ _
-    (λ e. moving_next_takes at left left.turns colour refl) (inl (refl, refl))
+    (λ e. moving_next_takes at left left.turns colour refl) (inl (refl, refl), refl)
 
 obeyed_takes : (at : EngineState) (left : Supply) (what : Command) (args : List (List ℕ))
-    → MayTakeTurn at left (obeyed at left what args)
+    → TakesAndKeeps at left (obeyed at left what args)
 obeyed_takes at left command.GenMove args = moving_by_takes at left (lone_colour args)
 obeyed_takes at left command.LoadSgf args = loading_takes at left (file_named args)
-obeyed_takes at left (command.Quiet quiet) args = inl (refl, refl)
+obeyed_takes at left (command.Quiet quiet) args = (inl (refl, refl), refl)
 
 by_takes : (at : EngineState) (left : Supply) (what : Option Command) (args : List (List ℕ))
-    → MayTakeTurn at left (reaction_by at left what args)
-by_takes at left None args = inl (refl, refl)
+    → TakesAndKeeps at left (reaction_by at left what args)
+by_takes at left None args = (inl (refl, refl), refl)
 by_takes at left (Some what) args = obeyed_takes at left what args
 
 pub reaction_takes : (at : EngineState) (left : Supply) (asked : Request)
     → MayTakeTurn at left (reaction at left asked)
 unfolding reaction
-reaction_takes at left asked = by_takes at left (command_named asked.name) asked.args
+reaction_takes at left asked = (by_takes at left (command_named asked.name) asked.args).0
+
+pub reaction_keeps : (at : EngineState) (left : Supply) (asked : Request)
+    → KeepsOptions at (reaction at left asked)
+unfolding reaction
+reaction_keeps at left asked = (by_takes at left (command_named asked.name) asked.args).1
