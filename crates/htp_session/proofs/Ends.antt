@@ -1,121 +1,143 @@
--- What stands where the talk over all that was to be answered was given.
-use Rattle.std.proofs.Common.{Ok, Err, ◌≡◌, ◌≢◌, ℕ, ◌≤◌, Bool, true, false, List, [], ◌++◌}
-use Rattle.std.proofs.Common.{length, take, ap, sym, ◌∙◌, inl, inr, length-append, arith}
+-- What stands at each end of a conversation, by what it kept and what answered its lines.
+use Rattle.std.proofs.Common.{Ok, Err, ◌≡◌, ℕ, ◌+◌, ◌≤◌, ◌⊎◌, Bool, List, [], ◌∷◌, ◌++◌, length, take}
+use Rattle.std.proofs.Common.{refl, ap, sym, ◌∙◌, inl, inr, append-nil, length-append, arith}
 use Rattle.std.proofs.Math.Seq.{take-append_seam}
 use Rattle.hex_io.specs.Told.{Told}
-use Rattle.htp_line.specs.Lines.{whole, rest, lines, unless_empty}
+use Rattle.htp_line.specs.Lines.{lines}
 use Rattle.hex_engine.specs.EngineState.{EngineState}
 use Rattle.hex_engine.specs.Supply.{Supply, nothing_left}
-use Rattle.hex_engine.specs.Replies.{Missing}
-use Rattle.htp_session.specs.Talk.{TalkState, Ending, Going, AfterQuit, Short, ending_if, goes_on}
-use Rattle.htp_session.specs.Talk.{talk, talk_to}
-use Rattle.htp_session.specs.Sessions.{WantsTurn}
+use Rattle.hex_engine.specs.Replies.{NoTurn}
+use Rattle.htp_session.specs.Talk.{Going, AfterQuit, Short, ending_if, talk, talk_to}
+use Rattle.htp_session.specs.Sessions.{Keeps, all_used}
 use Rattle.htp_session.specs.Endings.{since, Ended}
 use Rattle.hex_devices.specs.declared.stops.Stop.TheVariants as stop
-use Rattle.htp_session.proofs.TalkLaws.{talk_stays, talk_quit}
-use Rattle.htp_session.proofs.Keeping.{Keeps, since_keeps, course_of}
+use Rattle.htp_session.proofs.Keeping.{since_keeps, keeps_nothing, course_of}
+use Rattle.htp_session.proofs.SupplyLaws.{answered_if}
 
-through_if : (quit : Bool) (e : Ending) → e ≡ ending_if quit → (missing : Missing)
-    → e ≢ Short missing
-through_if true e p = λ missing q. cc
-through_if false e p = λ missing q. cc
-
-pub end_complete : (start : EngineState) (all : Supply) (limit : ℕ) (o n : Told)
-    (seen text : List ℕ) (quit : Bool) → length seen ≤ limit → Keeps start all o n seen text
-    → (talk start all (lines seen)).text ≡ text
-    → (talk start all (lines seen)).ending ≡ ending_if quit
-    → (talk start all (lines seen)).left ≡ nothing_left → n.to_come ≡ []
-    → Ended (Ok tt) start all limit o n
-end_complete start all limit o n seen text quit few kept e ends used none =
-    let s = since_keeps start all o n seen text kept in
-    let same_length = ap length s in
+-- all lines were answered, or quit was
+pub ended_finished : (start : EngineState) (all : Supply) (limit : ℕ) (o n : Told)
+    (taken text : List ℕ) (at : EngineState) (quit : Bool) → length taken ≤ limit
+    → Keeps start all o n taken text
+    → talk start all (lines taken) ≡ all_used text at (ending_if quit)
+    → (n.to_come ≡ []) ⊎ (ending_if quit ≡ AfterQuit) → Ended (Ok tt) start all limit o n
+ended_finished start all limit o n taken text at quit few kept is ended =
+    let s = since_keeps start all o n taken text kept in
     record {
-      course = course_of start all o n seen text kept;
+      course = course_of start all o n taken text kept;
       ends = record {
-        in_limit = omega arith;
-        given = kept.given ∙ ap (λ l. o.given ++ l) (sym e)
-            ∙ ap (λ l. o.given ++ (talk start all (lines l)).text) (sym s);
-        through = record { answered = through_if quit _ (ap (λ l. (talk start all (lines l)).ending) s ∙ ends); used = ap (λ l. (talk start all (lines l)).left) s ∙ used };
-        ended = inl none;
+        in_limit = rw s few;
+        given = rw (s, is) kept.given;
+        through = rw (s, is) (record { answered = answered_if quit (ending_if quit) refl; used = refl });
+        ended = rw (s, is) ended;
       };
     }
 
-pub end_quit : (start : EngineState) (all : Supply) (limit : ℕ) (o n : Told) (seen text : List ℕ)
-    → length seen ≤ limit → Keeps start all o n seen text → (talk_to start all seen).text ≡ text
-    → (talk_to start all seen).ending ≡ AfterQuit → (talk_to start all seen).left ≡ nothing_left
-    → Ended (Ok tt) start all limit o n
-end_quit start all limit o n seen text few kept e quit used =
-    let s = since_keeps start all o n seen text kept in
-    let same_length = ap length s in
-    let same : talk start all (lines (since o n)) ≡ talk_to start all seen
-    = ap (λ l. talk start all (lines l)) s
-    ∙ talk_quit start all (whole seen) (unless_empty (rest seen)) quit in
-    let ends : (talk start all (lines (since o n))).ending ≡ AfterQuit
-    = ap (λ (x : TalkState). x.ending) same ∙ quit in
+-- a read failed
+pub ended_unread : (start : EngineState) (all : Supply) (limit : ℕ) (o n : Told)
+    (taken text : List ℕ) (at : EngineState) → length taken ≤ limit
+    → Keeps start all o n taken text → talk_to start all taken ≡ all_used text at Going
+    → Ended (Err stop.ReadFault) start all limit o n
+ended_unread start all limit o n taken text at few kept is =
+    let s = since_keeps start all o n taken text kept in
     record {
-      course = course_of start all o n seen text kept;
+      course = course_of start all o n taken text kept;
       ends = record {
-        in_limit = omega arith;
-        given = kept.given ∙ ap (λ l. o.given ++ l) (sym e)
-            ∙ ap (λ (x : TalkState). o.given ++ x.text) (sym same);
-        through = record { answered = through_if true _ ends; used = ap (λ (x : TalkState). x.left) same ∙ used };
-        ended = inr ends;
+        in_limit = rw s few;
+        given = rw (s, is) kept.given;
+        going = rw (s, is) refl;
+        used = rw (s, is) refl;
       };
     }
 
-pub end_unread : (start : EngineState) (all : Supply) (limit : ℕ) (o n : Told) (seen text : List ℕ)
-    → length seen ≤ limit → Keeps start all o n seen text → (talk_to start all seen).text ≡ text
-    → (talk_to start all seen).ending ≡ Going
-    → (talk_to start all seen).left ≡ nothing_left → Ended (Err stop.ReadFault) start all limit o n
-end_unread start all limit o n seen text few kept e going used =
-    let s = since_keeps start all o n seen text kept in
-    let same_length = ap length s in
+-- one byte more than the limit was taken
+pub ended_overlong : (start : EngineState) (all : Supply) (limit : ℕ) (o n : Told)
+    (seen more text : List ℕ) (at : EngineState) → length seen ≡ limit → length more ≡ 1
+    → Keeps start all o n (seen ++ more) text → talk_to start all seen ≡ all_used text at Going
+    → Ended (Err stop.TooLong) start all limit o n
+ended_overlong start all limit o n seen more text at full one kept is =
+    let s = since_keeps start all o n (seen ++ more) text kept in
+    let front : take limit (since o n) ≡ seen = ap (take limit) s
+    ∙ ap (λ k. take k (seen ++ more)) (sym full) ∙ take-append_seam seen more in
     record {
-      course = course_of start all o n seen text kept;
-      ends = record { in_limit = omega arith; given = kept.given ∙ ap (λ l. o.given ++ l) (sym e) ∙ ap (λ l. o.given ++ (talk_to start all l).text) (sym s); going = ap (λ l. (talk_to start all l).ending) s ∙ going; used = ap (λ l. (talk_to start all l).left) s ∙ used };
+      course = course_of start all o n (seen ++ more) text kept;
+      ends = record {
+        many = let h = ap length s ∙ length-append seen more in omega (arith, h, full, one);
+        given = rw (front, is) kept.given;
+        going = rw (front, is) refl;
+        used = rw (front, is) refl;
+      };
     }
 
 -- a turn is wanted
-pub end_unarchived : (start : EngineState) (all : Supply) (limit : ℕ) (o n : Told)
-    (seen text : List ℕ) → length seen ≤ limit → Keeps start all o n seen text
-    → (talk start all (lines seen)).text ≡ text
-    → WantsTurn (talk start all (lines seen)) → Ended (Err stop.ArchiveFault) start all limit o n
-end_unarchived start all limit o n seen text few kept e wants =
-    let s = since_keeps start all o n seen text kept in
-    let same_length = ap length s in
+pub ended_unarchived : (start : EngineState) (all : Supply) (limit : ℕ) (o n : Told)
+    (taken text : List ℕ) (at : EngineState) → length taken ≤ limit
+    → Keeps start all o n taken text
+    → talk start all (lines taken) ≡ all_used text at (Short NoTurn)
+    → Ended (Err stop.ArchiveFault) start all limit o n
+ended_unarchived start all limit o n taken text at few kept is =
+    let s = since_keeps start all o n taken text kept in
     record {
-      course = course_of start all o n seen text kept;
+      course = course_of start all o n taken text kept;
       ends = record {
-        in_limit = omega arith;
-        given = kept.given ∙ ap (λ l. o.given ++ l) (sym e)
-            ∙ ap (λ l. o.given ++ (talk start all (lines l)).text) (sym s);
-        wants = ap (λ l. (talk start all (lines l)).ending) s ∙ wants.ending;
-        used = ap (λ l. (talk start all (lines l)).left) s ∙ wants.left;
+        in_limit = rw s few;
+        given = rw (s, is) kept.given;
+        wants = rw (s, is) refl;
+        used = rw (s, is) refl;
       };
     }
 
--- where a turn is wanted no more lines are answered
-pub wants_lines : (start : EngineState) (all : Supply) (seen : List ℕ)
-    → WantsTurn (talk_to start all seen) → talk start all (lines seen) ≡ talk_to start all seen
-wants_lines start all seen wants = talk_stays start all (whole seen) (unless_empty (rest seen))
-    (ap goes_on wants.ending)
-
--- one byte t more than the limit was taken
-pub end_overlong : (start : EngineState) (all : Supply) (limit : ℕ) (o n : Told) (s t text : List ℕ)
-    → length s ≡ limit → length t ≡ 1 → Keeps start all o n (s ++ t) text
-    → (talk_to start all s).text ≡ text → (talk_to start all s).ending ≡ Going
-    → (talk_to start all s).left ≡ nothing_left → Ended (Err stop.TooLong) start all limit o n
-end_overlong start all limit o n s t text ls lt kept e going used =
-    let w = since_keeps start all o n (s ++ t) text kept in
-    let front : take limit (since o n) ≡ s = ap (take limit) w ∙ ap (λ k. take k (s ++ t)) (sym ls)
-    ∙ take-append_seam s t in
+-- a write failed within the text
+pub ended_unwritten : (start : EngineState) (all : Supply) (limit : ℕ) (o n : Told)
+    (taken part more : List ℕ) → length taken ≤ limit → Keeps start all o n taken part
+    → (talk start all (lines taken)).text ≡ part ++ more
+    → Ended (Err stop.WriteFault) start all limit o n
+ended_unwritten start all limit o n taken part more few kept is =
+    let s = since_keeps start all o n taken part kept in
     record {
-      course = course_of start all o n (s ++ t) text kept;
+      course = course_of start all o n taken part kept;
+      ends = record { in_limit = rw s few; given = (part, more, rw s is, kept.given) };
+    }
+
+-- memory ran out at the line after the first ones
+pub ended_unfinished : (start : EngineState) (all : Supply) (limit : ℕ) (o n : Told)
+    (taken text : List ℕ) (ls : List (List ℕ)) (raw : List ℕ) (others : List (List ℕ))
+    (at : EngineState) → length taken ≤ limit → Keeps start all o n taken text
+    → lines taken ≡ ls ++ raw ∷ others → talk start all ls ≡ all_used text at Going
+    → Ended (Err stop.Memory) start all limit o n
+ended_unfinished start all limit o n taken text ls raw others at few kept split is =
+    let s = since_keeps start all o n taken text kept in
+    let w : lines (since o n) ≡ ls ++ raw ∷ others = ap lines s ∙ split in
+    let front : take (length ls) (lines (since o n)) ≡ ls = ap (take (length ls)) w
+    ∙ take-append_seam ls (raw ∷ others) in
+    let many : length (lines (since o n)) ≡ length ls + length (raw ∷ others) = ap length w
+    ∙ length-append ls (raw ∷ others) in
+    record {
+      course = course_of start all o n taken text kept;
       ends = record {
-        many = let h = ap length w ∙ length-append s t in omega (arith, h, ls, lt);
-        given = kept.given ∙ ap (λ l. o.given ++ l) (sym e)
-            ∙ ap (λ l. o.given ++ (talk_to start all l).text) (sym front);
-        going = ap (λ l. (talk_to start all l).ending) front ∙ going;
-        used = ap (λ l. (talk_to start all l).left) front ∙ used;
+        in_limit = rw s few;
+        before = length ls;
+        given = rw (front, is) kept.given;
+        going = rw (front, is) refl;
+        used = rw (front, is) refl;
+        line = inl (omega (arith, many));
+      };
+    }
+
+-- memory ran out before the first read
+pub ended_unbegun : (start : EngineState) (limit : ℕ) (o : Told)
+    → Ended (Err stop.Memory) start nothing_left limit o o
+ended_unbegun start limit o =
+    let kept = keeps_nothing start nothing_left o in
+    let s : since o o ≡ [] = since_keeps start nothing_left o o [] [] kept in
+    let same_length = ap length s in
+    record {
+      course = course_of start nothing_left o o [] [] kept;
+      ends = record {
+        in_limit = omega arith;
+        before = 0;
+        given = sym (append-nil o.given);
+        going = refl;
+        used = refl;
+        line = inr s;
       };
     }

@@ -11,19 +11,12 @@ use Rattle.htp_line.specs.Lines.{whole, rest, lines, unless_empty}
 use Rattle.htp_line.specs.Splitting.{kept_line}
 use Rattle.htp_line.proofs.LinesLaws.{whole-append}
 use Rattle.hex_engine.specs.EngineState.{EngineState}
-use Rattle.hex_engine.specs.Supply.{Supply}
+use Rattle.hex_engine.specs.Supply.{Supply, and_then}
 use Rattle.htp_session.specs.Talk.{TalkState, Going, goes_on, after_line, followed_by, with_line}
 use Rattle.htp_session.specs.Talk.{talk_start, talk, talk_to}
 use Rattle.htp_session.specs.Endings.{since, Shown, Course}
-
--- what a conversation keeps: what it took, what it gave, and that each read came after the answers
-pub record Keeps (start : EngineState) (all : Supply) (old new : Told)
-    (seen text : List ℕ) : Type 0 where
-  pub taken : new.taken ≡ old.taken ++ seen
-  pub moved : old.to_come ≡ seen ++ new.to_come
-  pub given : new.given ≡ old.given ++ text
-  pub asks : (added : List (ℕ × ℕ)) × (new.asks ≡ old.asks ++ added)
-      × AllByRecursion (Shown start all old new) added
+use Rattle.htp_session.specs.Sessions.{Keeps}
+use Rattle.htp_session.proofs.SupplyLaws.{talk_more_left, answered_if}
 
 pub since_keeps : (start : EngineState) (all : Supply) (o n : Told) (seen text : List ℕ)
     → Keeps start all o n seen text → since o n ≡ seen
@@ -103,8 +96,42 @@ keeps_giving start all o n m seen text bytes kept g =
       taken = taken ∙ kept.taken;
       moved = kept.moved ∙ ap (λ (t : Told). seen ++ t.to_come) (sym g);
       given = given ∙ ap (λ l. l ++ bytes) kept.given ∙ append_assoc o.given text bytes;
-      asks = (kept.asks.0, ap (λ (t : Told). t.asks) g ∙ kept.asks.1, all_shown_grow start all o n m [] bytes (taken ∙ sym (append-nil n.taken)) given kept.asks.0 kept.asks.2);
+      asks = (
+        kept.asks.0,
+        ap (λ (t : Told). t.asks) g ∙ kept.asks.1,
+        all_shown_grow start all o n m [] bytes (taken ∙ sym (append-nil n.taken)) given
+            kept.asks.0 kept.asks.2,
+      );
     }
+
+shown_later : (start : EngineState) (all more : Supply) (o n : Told) (ask : ℕ × ℕ)
+    → Shown start all o n ask → Shown start (and_then all more) o n ask
+shown_later start all more o n ask s =
+    let lines = whole (drop (length o.taken) (take ask.0 n.taken)) in
+    let same = talk_more_left start all more lines (answered_if false _ s.going) in
+    record {
+      in_taken = s.in_taken;
+      in_given = s.in_given;
+      answered = s.answered ∙ ap (λ (t : TalkState). o.given ++ t.text) (sym same);
+      going = ap (λ (t : TalkState). t.ending) same ∙ s.going;
+    }
+
+all_shown_later : (start : EngineState) (all more : Supply) (o n : Told) (asks : List (ℕ × ℕ))
+    → AllByRecursion (Shown start all o n) asks
+    → AllByRecursion (Shown start (and_then all more) o n) asks
+all_shown_later start all more o n [] shown = shown
+all_shown_later start all more o n (ask ∷ asks) shown
+    = (shown_later start all more o n ask shown.0, all_shown_later start all more o n asks shown.1)
+
+-- more was used up
+pub keeps_using : (start : EngineState) (all more : Supply) (o n : Told) (seen text : List ℕ)
+    → Keeps start all o n seen text → Keeps start (and_then all more) o n seen text
+keeps_using start all more o n seen text kept = record {
+  taken = kept.taken;
+  moved = kept.moved;
+  given = kept.given;
+  asks = (kept.asks.0, kept.asks.1, all_shown_later start all more o n kept.asks.0 kept.asks.2);
+}
 
 pub keeps_nothing : (start : EngineState) (all : Supply) (o : Told) → Keeps start all o o [] []
 keeps_nothing start all o

@@ -6,7 +6,7 @@ use Rattle.std.proofs.Math.Seq.{take-add}
 use Rattle.std.proofs.lemmas.List.{take-append-drop, take_rest}
 
 -- what is taken next of the rest of a piece
-pub next_part : (piece : List ℕ) (i n : ℕ)
+next_part : (piece : List ℕ) (i n : ℕ)
     → take i piece ++ take n (take (length piece - i) (drop i piece)) ≡ take (i + n) piece
 next_part piece i n = ap (λ l. take i piece ++ take n l) (take_rest piece i)
     ∙ sym (take-add i n piece)
@@ -19,10 +19,19 @@ next_seen seen piece i n
     = append_assoc seen (take i piece) (take n (take (length piece - i) (drop i piece)))
     ∙ ap (λ l. seen ++ l) (next_part piece i n)
 
--- the first bytes and the rest are the piece
-pub parts_make : (piece : List ℕ) (i : ℕ)
-    → take i piece ++ take (length piece - i) (drop i piece) ≡ piece
-parts_make piece i = ap (λ l. take i piece ++ l) (take_rest piece i) ∙ take-append-drop i piece
+-- the first bytes and the rest are the piece, also after a text
+pub rest_taken : (seen piece : List ℕ) (i : ℕ)
+    → seen ++ piece ≡ (seen ++ take i piece) ++ take (length piece - i) (drop i piece)
+rest_taken seen piece i
+    = ap (λ l. seen ++ l)
+    (sym (ap (λ l. take i piece ++ l) (take_rest piece i) ∙ take-append-drop i piece))
+    ∙ sym (append_assoc seen (take i piece) (take (length piece - i) (drop i piece)))
+
+-- the same of any piece after a text
+pub front_of : (seen taken piece : List ℕ) (n : ℕ) → taken ≡ seen ++ piece
+    → taken ≡ (seen ++ take n piece) ++ drop n piece
+front_of seen taken piece n parts = parts ∙ ap (λ l. seen ++ l) (sym (take-append-drop n piece))
+    ∙ sym (append_assoc seen (take n piece) (drop n piece))
 
 -- the bytes taken, with a piece more
 pub length-taken : (seen buf : List ℕ) (total count : ℕ) → length seen ≡ total → count ≤ length buf

@@ -12,7 +12,7 @@ use Rattle.htp_line.specs.declared.request.Parsed.TheVariants as parsed
 use Rattle.hex_engine.specs.EngineState.{EngineState}
 use Rattle.hex_engine.specs.Replies.{NoTurn}
 use Rattle.hex_engine.specs.Supply.{Supply, nothing_left}
-use Rattle.hex_engine.specs.Requests.{AnsweredQuietly, reaction, replied}
+use Rattle.hex_engine.specs.Requests.{AnsweredQuietly, reaction}
 use Rattle.hex_engine.specs.Uses.{Answered}
 use Rattle.hex_engine.specs.declared.answers.Answer.{Answer}
 use Rattle.hex_engine.specs.declared.answers.EngineError.{EngineError}
@@ -24,13 +24,12 @@ use Rattle.hex_devices.specs.declared.stops.Stop.{Stop}
 use Rattle.hex_devices.specs.declared.stops.Stop.TheVariants.{ReadFault, WriteFault, Memory}
 use Rattle.hex_devices.specs.declared.stops.Stop.TheVariants.{ArchiveFault}
 use Rattle.htp_session.specs.Talk.{TalkState, Going, after_reaction, after_reading}
-use Rattle.htp_session.specs.Talk.{is_quit, reply_text}
 use Rattle.htp_session.specs.Usage.{AnswersWith, Wants, UsesUpNothing}
 use Rattle.htp_session.specs.Calls.Answering.{Speaks, SpeaksToRequest, Writes, WritesReply}
 use Rattle.htp_session.specs.Calls.Asking.{Asks, Replies, output_of_engine, stop_of_engine}
 use Rattle.htp_session.specs.declared.answering.Said.{Said}
 use Rattle.htp_session.specs.declared.answering.Said.TheVariants.{Whole, Open}
-use Rattle.htp_session.proofs.Advances.{says_nothing_used, nothing_used}
+use Rattle.htp_session.proofs.UsageLaws.{says_nothing_used, nothing_used}
 
 -- ---- at once
 
@@ -43,21 +42,7 @@ pub refused : {E : Type 0} (at : EngineState) (says : Supply → TalkState) (tex
 refused at says text old out (Ok said) is wrote whole = rw whole (text, wrote, is)
 refused at says text old out (Err error) is wrote whole = tt
 
--- a request that uses nothing up was answered
-pub spoken : (before after : EngineState) (request : Request) (answered : Option Answer)
-    (answer : Answer) (old out : List ℕ) (quit : Bool)
-    → AnsweredQuietly before request after answered → answered ≡ Some answer
-    → out ≡ old ++ reply_text request.id (replied answer) → quit ≡ is_quit (replied answer)
-    → SpeaksToRequest before after request old out (Whole quit)
-spoken before after request answered answer old out quit quietly is wrote q =
-    let reacts = subst (AnsweredQuietly before request after) is quietly in
-    rw q (
-      reply_text request.id (replied answer),
-      wrote,
-      λ later. ap (after_reaction before later request.id) (reacts later),
-    )
-
--- one that uses something up was not
+-- a request that uses something up was not answered
 pub unspoken : (before after : EngineState) (request : Request) (answered : Option Answer)
     (out : List ℕ) → AnsweredQuietly before request after answered → answered ≡ None
     → SpeaksToRequest before after request out out (Open request)

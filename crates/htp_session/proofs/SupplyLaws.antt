@@ -1,23 +1,21 @@
 -- What a talk keeps, and that more at the end of what is left changes nothing of it where it is not
 -- short.
-use Rattle.std.proofs.Common.{◌≡◌, ℕ, Bool, true, false, cond, List, [], ◌∷◌, Option, Some, None}
+use Rattle.std.proofs.Common.{◌≡◌, ◌≢◌, ℕ, Bool, true, false, cond, List, [], ◌∷◌, Option, Some, None}
 use Rattle.std.proofs.Common.{Result, Ok, Err, fold, refl, ap, ◌∙◌}
 use Rattle.std.proofs.lemmas.List.Folds.{fold_stays}
 use Rattle.htp_line.specs.Reading.{reading}
 use Rattle.htp_line.specs.declared.request.Parsed.{Parsed}
 use Rattle.htp_line.specs.declared.request.Parsed.TheVariants.{Blank, Bare, Request}
 use Rattle.htp_line.specs.Splitting.{kept_line}
-use Rattle.htp_line.specs.Lines.{whole}
-use Rattle.htp_line.specs.Splitting.{SplitterData}
 use Rattle.hex_engine.specs.EngineState.{EngineState}
 use Rattle.hex_engine.specs.Supply.{Supply, and_then}
 use Rattle.hex_engine.specs.Replies.{Turned, Missing}
 use Rattle.hex_engine.specs.Requests.{reaction}
-use Rattle.htp_session.specs.Talk.{TalkState, Short, goes_on, after_reaction, after_reading}
+use Rattle.htp_session.specs.Talk.{TalkState, Ending, Short, ending_if, goes_on, after_reaction}
+use Rattle.htp_session.specs.Talk.{after_reading}
 use Rattle.htp_session.specs.Talk.{after_line, followed_by, with_line, talk_start, talk}
 use Rattle.htp_session.specs.Laws.{IsAnswered}
 use Rattle.htp_session.specs.Supply.{with_more_left}
-use Rattle.htp_session.specs.Sessions.{IsSessionAfter}
 use Rattle.htp_session.proofs.TalkLaws.{step-stays}
 use Rattle.htp_session.proofs.TakenTurns.{KeepsOptions, reaction_keeps}
 use Rattle.htp_session.proofs.MoreLeft.{HasAll, leaving_more, reaction_more}
@@ -55,12 +53,16 @@ fold_keeps : (a : TalkState) (lines : List (List ℕ))
 fold_keeps a [] = refl
 fold_keeps a (raw ∷ lines) = fold_keeps (with_line a raw) lines ∙ step_keeps a raw
 
--- the engine of a conversation has the options of its start
-pub stands_options : (start : EngineState) (all later : Supply) (engine : EngineState)
-    (held : SplitterData) (seen : List ℕ) → IsSessionAfter start all later engine held seen
-    → engine.options ≡ start.options
-stands_options start all later engine held seen stands
-    = ap (λ (s : EngineState). s.options) stands.at ∙ fold_keeps (talk_start start all) (whole seen)
+-- what a talk stands at has the options of its start
+pub talk_options : (start : EngineState) (left : Supply) (lines : List (List ℕ))
+    → (talk start left lines).at.options ≡ start.options
+talk_options start left lines = fold_keeps (talk_start start left) lines
+
+-- a talk that goes on, or ended with an answered quit, was not short
+pub answered_if : (quit : Bool) (e : Ending) → e ≡ ending_if quit → (missing : Missing)
+    → e ≢ Short missing
+answered_if true e p = λ missing q. cc
+answered_if false e p = λ missing q. cc
 
 -- ---- more at the end of what is left
 

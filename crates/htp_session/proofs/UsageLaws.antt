@@ -1,27 +1,22 @@
 -- What is used up by one call after another.
 use Rattle.std.proofs.Common.{◌≡◌, ℕ, Bool, List, [], ◌∷◌, ◌++◌, refl, ap, sym, ◌∙◌, subst}
-use Rattle.std.proofs.Common.{append-nil, append_assoc}
+use Rattle.std.proofs.Common.{append-nil, append_assoc, arith}
 use Rattle.hex_io.specs.declared.files.File.{File}
 use Rattle.hex_io.specs.Shelves.{Shelved}
 use Rattle.hex_io.proofs.BothLaws.{Both-then, Both-refl}
 use Rattle.hex_engine.specs.declared.options.Options.{Options}
 use Rattle.hex_plan.specs.Turns.{TurnData}
-use Rattle.htp_line.specs.Splitting.{SplitterData}
 use Rattle.hex_engine.specs.EngineState.{EngineState}
 use Rattle.hex_engine.specs.Supply.{Supply, Load, nothing_left, and_then}
 use Rattle.hex_engine.specs.Uses.{CameOf, FetchesLoads, AreGood}
-use Rattle.htp_session.specs.Usage.{UsesUp}
+use Rattle.htp_session.specs.Talk.{TalkState, ending_if}
+use Rattle.htp_session.specs.Usage.{UsesUp, UsesUpNothing, AnswersWith}
 use Rattle.hex_devices.specs.Devices.{ShelfAndArchive}
-use Rattle.htp_session.specs.Sessions.{IsSessionAfter, Does}
 
 -- ---- what is left
 
 pub and_then_nothing : (a : Supply) → and_then a nothing_left ≡ a
 and_then_nothing a = let l = append-nil a.loads in let t = append-nil a.turns in rw (l, t) refl
-
-pub and_then_assoc : (a b c : Supply) → and_then (and_then a b) c ≡ and_then a (and_then b c)
-and_then_assoc a b c = let l = append_assoc a.loads b.loads c.loads in
-    let t = append_assoc a.turns b.turns c.turns in rw (l, t) refl
 
 -- ---- uses
 
@@ -76,43 +71,12 @@ uses_nothing options a = record {
   moving = record { took = Both-refl a.1 (λ x y. y ≡ x ++ []) (λ x. sym (append-nil x)); good = tt };
 }
 
--- ---- what calls do
+-- an answer that uses nothing up
+pub says_nothing_used : (options : Options) (a : ShelfAndArchive) (says : Supply → TalkState)
+    (text : List ℕ) (at : EngineState) (quit : Bool)
+    → ((later : Supply) → says later ≡ record { text = text; at = at; left = later; ending = ending_if quit }) → AnswersWith options a a says text at quit
+says_nothing_used options a says text at quit is
+    = record { used = nothing_left; uses = uses_nothing options a; is = is }
 
-abbrev pub After : Type 1
-After = EngineState → Supply → Supply → List ℕ → Type 0
-
--- a call that did something more and a call after it, where the text m was taken by the first
-pub does_then : (a b c : ShelfAndArchive) (in_vain : List Bool) (engine after : EngineState)
-    (held then : SplitterData) (m : List ℕ) (T S R : After)
-    → ((start : EngineState) (all later : Supply) (seen : List ℕ) → T start all later seen → IsSessionAfter start all later after then (seen ++ m))
-    → ((start : EngineState) (all mid later : Supply) (seen : List ℕ) → T start all mid seen → S start all later (seen ++ m) → R start all later seen)
-    → Does a b [] engine held T → Does b c in_vain after then S → Does a c in_vain engine held R
-does_then a b c in_vain engine after held then m T S R stands go p q = record {
-  used = and_then p.used q.used;
-  stood = λ start all later seen here.
-      let first = p.stood start all (and_then q.used later) seen
-      (subst (λ l. IsSessionAfter start all l engine held seen) (and_then_assoc p.used q.used later) here) in
-      let second = q.stood start all later (seen ++ m)
-      (stands start all (and_then q.used later) seen first.1) in (
-        uses_then start.options a b c p.used q.used in_vain first.0 second.0,
-        go start all (and_then q.used later) later seen first.1 second.1,
-      );
-}
-
--- what holds then follows from what held
-pub does_weaker : (a b : ShelfAndArchive) (in_vain : List Bool) (engine : EngineState)
-    (held : SplitterData) (T S : After)
-    → ((start : EngineState) (all later : Supply) (seen : List ℕ) → T start all later seen → S start all later seen) → Does a b in_vain engine held T → Does a b in_vain engine held S
-does_weaker a b in_vain engine held T S go p = record {
-  used = p.used;
-  stood = λ start all later seen here. let all_of = p.stood start all later seen here in
-      (all_of.0, go start all later seen all_of.1);
-}
-
--- a call that used nothing up
-pub does_nothing : (a : ShelfAndArchive) (engine : EngineState) (held : SplitterData) (T : After)
-    → ((start : EngineState) (all later : Supply) (seen : List ℕ) → IsSessionAfter start all later engine held seen → T start all later seen) → Does a a [] engine held T
-does_nothing a engine held T go = record {
-  used = nothing_left;
-  stood = λ start all later seen here. (uses_nothing start.options a, go start all later seen here);
-}
+pub nothing_used : (options : Options) (a : ShelfAndArchive) → UsesUpNothing options a a
+nothing_used options a = record { in_vain = []; few = omega arith; uses = uses_nothing options a }

@@ -1,13 +1,12 @@
 -- What a conversation uses things up from. No clause of a public call cites this.
 use Rattle.std.specs.Prelude.{◌≡◌, ℕ, Bool, List, []}
-use Rattle.std.specs.declared.option.Option.{Option}
 use Rattle.hex_engine.specs.declared.options.Options.{Options}
 use Rattle.hex_devices.specs.Devices.{ShelfAndArchive}
 use Rattle.hex_engine.specs.EngineState.{EngineState}
 use Rattle.hex_engine.specs.Supply.{Supply, nothing_left, and_then}
 use Rattle.hex_engine.specs.Uses.{Uses, UsesNothing}
 use Rattle.hex_engine.specs.Replies.{NoTurn}
-use Rattle.htp_session.specs.Talk.{TalkState, Short, ending_if, after_line}
+use Rattle.htp_session.specs.Talk.{TalkState, Short, ending_if}
 
 -- this was used up since, and these fetches at the end came to nothing
 abbrev pub UsesUp : Options → ShelfAndArchive → ShelfAndArchive → Supply → List Bool → Type 0
@@ -33,14 +32,3 @@ pub record Wants (options : Options) (old new : ShelfAndArchive) (at : EngineSta
   pub uses : UsesUp options old new nothing_left []
   pub is : says nothing_left
       ≡ record { text = []; at = at; left = nothing_left; ending = Short NoTurn }
-
--- a line was answered so
-abbrev pub Responds : ShelfAndArchive → ShelfAndArchive → EngineState → Option (List ℕ) → List ℕ
-    → EngineState → Bool → Type 0
-Responds old new engine line text after quit = AnswersWith engine.options old new
-    (λ left. after_line engine left line) text after quit
-
--- a line wants a turn
-abbrev pub Lacks : ShelfAndArchive → ShelfAndArchive → EngineState → Option (List ℕ) → Type 0
-Lacks old new engine line = Wants engine.options old new engine
-    (λ left. after_line engine left line)

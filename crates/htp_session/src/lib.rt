@@ -44,10 +44,10 @@
 //!   its turn is handed over, and room for the longest answer of a command that uses something up
 //!   is reserved before the engine is asked. An answer is written into room that its caller
 //!   reserved.
-//! - A call of a session fails by memory, the archive or a write (`OutputError`), so its relation
-//!   has a row for each and no other. A read fails in `converse` alone, where an error becomes the
-//!   stop that ends the session. The last line is answered and given by one call: nothing is held
-//!   before it, so a call that only answered it would have a row for a write that can't fail.
+//! - Each call of a session keeps one invariant, `HasAnswered` of `specs/Sessions.antt`, whatever
+//!   conversation it is of: what was given and is held is the talk over the lines answered so far.
+//!   Where a call fails, by memory, the archive or a write (`OutputError`), its clause says at once
+//!   how the conversation ended. A read fails in `converse` alone.
 //! - With status 5 what was written is the transcript over the first m lines, if line m exists, or
 //!   nothing was taken at all. That line m is the one that ran out of memory can't be said: no
 //!   contract sees a refused allocation.

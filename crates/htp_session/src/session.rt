@@ -1,9 +1,9 @@
 //! A session: what comes in piece by piece, and what is owed for it.
 
-ghost use Rattle.std.specs.Prelude.{◌≡◌, ◌<◌, ◌≤◌, length, IfOk, true, List, ℕ, []};
+ghost use Rattle.std.specs.Prelude.{◌≡◌, ◌<◌, ◌≤◌, length, IfOk, true, []};
 ghost use Rattle.tree_words.specs.Settings.{AreInRange};
 ghost use Rattle.hex_engine.specs.EngineState.{opening};
-ghost use Rattle.hex_engine.specs.Supply.{Supply};
+ghost use Rattle.htp_line.specs.Splitting.{StandsAfter};
 ghost use Rattle.hex_devices.specs.Devices.{CountsAs};
 ghost use Rattle.hex_devices.specs.Errors.{stop_of_output};
 
@@ -31,16 +31,14 @@ pub struct Session {
 }
 
 impl Session {
-    ghost use Rattle.htp_session.specs.Sessions.{IsSessionAfter};
     ghost use Rattle.htp_session.specs.Calls.Answering.{WritesAnswer};
     ghost use Rattle.htp_session.specs.Calls.Session.{AdvancesBy, TakesPiece};
 
     /// A session before its first byte.
     pub fn make(alloc: Global, options: &Options, size: Size) -> Result<Session, Memory>
         requires { AreInRange options.now.knobs }
-        ensures stands { IfOk result
-            (λ s. (later : Supply) →
-            IsSessionAfter (opening options.now size) later later s.engine s.splitter []) }
+        ensures engine { IfOk result (λ s. s.engine ≡ opening options.now size) }
+        ensures in_hand { IfOk result (λ s. StandsAfter s.splitter []) }
     {
         let engine = Engine::make(alloc, options, size)?;
         let Ok(splitter) = Splitter::make(alloc) else {
@@ -79,7 +77,6 @@ impl Session {
         requires some { 0 < length piece.now }
         ensures used { IfOk result (λ m. (0 < m.used) × (m.used ≤ length piece.now)) }
         ensures advances { AdvancesBy devices.old devices.new self.old self.new piece.now result }
-        ensures counts { CountsAs stop_of_output devices.old devices.new result }
     {
         let fed = self.splitter.push(piece);
         if !fed.ended {
@@ -104,7 +101,6 @@ impl Session {
         piece: &[u8],
     ) -> Result<bool, OutputError>
         ensures takes { TakesPiece devices.old devices.new self.old self.new piece.now result }
-        ensures counts { CountsAs stop_of_output devices.old devices.new result }
     {
         self.out.clear();
         let mut at = 0;
@@ -133,7 +129,6 @@ impl Session {
         piece: &[u8],
     ) -> Result<bool, OutputError>
         ensures feeds { Feeds devices.old devices.new self.old self.new piece.now result }
-        ensures counts { CountsAs stop_of_output devices.old devices.new result }
     {
         let quit = self.take(alloc, devices, piece)?;
         give_held(devices, &mut self.out)?;
@@ -147,7 +142,6 @@ impl Session {
         devices: &mut Devices<'_, '_, '_, '_, D>,
     ) -> Result<(), OutputError>
         ensures finishes { Finishes devices.old devices.new self.old result }
-        ensures counts { CountsAs stop_of_output devices.old devices.new result }
     {
         self.out.clear();
         if !self.splitter.finish() {

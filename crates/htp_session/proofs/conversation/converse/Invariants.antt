@@ -1,14 +1,14 @@
-use Rattle.std.proofs.Common.{◌≤◌, ◌-◌, None}
-use Rattle.hex_devices.specs.Devices.{CountsStop}
-use Rattle.htp_session.proofs.ReadLaws.{GoesOnAfter}
+use Rattle.std.proofs.Common.{◌≤◌, ◌-◌}
+use Rattle.htp_session.proofs.ReadPieces.{StandsAt}
 use Rattle.htp_session.proofs.conversation.converse.Given as goal
 
--- what was taken so far was answered, and no fault was counted
+-- what was taken so far was answered, and the answers given
 abbrev pub invariant-pieces : goal.invariant-pieces
 invariant-pieces g l = record {
   in_limit : l.total ≤ l.limit;
-  counts : CountsStop l.fn.devices l.devices None;
-  goes : GoesOnAfter l.fn.options l.fn.size l.fn.devices l.devices l.session l.total;
+  stands : StandsAt
+      (record { options = l.fn.options; size = l.fn.size; limit = l.limit; began = l.fn.devices })
+      l.devices l.session l.total;
 }
 
 abbrev pub decreases-pieces : goal.decreases-pieces

@@ -1,7 +1,7 @@
 -- All that was held was given, or nothing.
 use Rattle.std.proofs.Common.{arith}
 use Rattle.std.proofs.lemmas.Result.{on_ok_weaker}
-use Rattle.htp_session.proofs.Given.{passes_all, passes_part}
+use Rattle.htp_session.proofs.Passing.{passes_all, passes_part}
 use Rattle.htp_session.proofs.holding.relieve.Goals as goal
 
 pub returns-clause-passes : goal.returns-clause-passes

@@ -1,53 +1,57 @@
 -- What answers the last line was given, if there is one.
 use Rattle.std.proofs.Common.{◌≡◌, true, false, rules}
 use Rattle.std.proofs.lemmas.Result.{err_from_is_err_and}
-use Rattle.hex_devices.proofs.CountLaws.{counts_nothing, counts_then}
-use Rattle.htp_session.proofs.Calling.{end_answered, end_given, end_stopped, end_unwritten}
-use Rattle.htp_session.proofs.Calling.{no_last_line}
+use Rattle.htp_session.proofs.Outcomes.{came_unwritten}
+use Rattle.htp_session.proofs.NextLines.{last_line, next_answered, next_stopped}
+use Rattle.htp_session.proofs.Feeding.{finished, finished_at_once, holding_none}
 use Rattle.htp_session.proofs.session.Session.finish.Goals as goal
 
-pub returns-then-not-finish-clause-finishes : goal.returns-then-not-finish-clause-finishes
-returns-then-not-finish-clause-finishes g c =
+pub returns-then-not-finish : goal.returns-then-not-finish
+returns-then-not-finish g c =
     let ended : c.finish.new.self.ended ≡ false = search rules in
-    no_last_line c.args.devices.now c.args.self.now c.finish.new.self c.finish.ensures.stream ended
+    record {
+      finishes = λ k seen h none. finished_at_once c.finish.new.self h none
+          (c.finish.ensures.stream seen h.in_hand) ended;
+    }
 
-pub returns-then-not-finish-clause-counts : goal.returns-then-not-finish-clause-counts
-returns-then-not-finish-clause-counts g c = counts_nothing c.args.devices.now
-
-pub returns-in_err-answer-clause-finishes : goal.returns-in_err-answer-clause-finishes
-returns-in_err-answer-clause-finishes g c =
+pub returns-in_err-answer : goal.returns-in_err-answer
+returns-in_err-answer g c =
     let p = err_from_is_err_and c.from_residual.result c.from_residual.ensures.1 in
     let ended : c.finish.new.self.ended ≡ true = search rules in
-    rw (p.1, p.2)
-    (end_stopped c.args.devices.now c.answer.new.devices c.args.self.now c.answer.new.self.engine c.finish.new.self c.clear.new.self.items c.answer.new.self.out.items c.in_err-answer.field-0.0 c.clear.ensures.items c.finish.ensures.stream ended c.in_err-answer.ensures.writes)
+    rw (p.1, p.2) (record {
+      finishes = λ k seen h none.
+          next_stopped c.answer.new.self.engine c.answer.new.self.out.items
+          (holding_none c.clear.ensures.items h.so_far)
+          (last_line c.finish.new.self seen (c.finish.ensures.stream seen h.in_hand) ended)
+          c.in_err-answer.field-0.0 c.in_err-answer.ensures.writes c.in_err-answer.ensures.counts;
+    })
 
-pub returns-in_err-answer-clause-counts : goal.returns-in_err-answer-clause-counts
-returns-in_err-answer-clause-counts g c =
-    let p = err_from_is_err_and c.from_residual.result c.from_residual.ensures.1 in
-    rw (p.1, p.2) c.in_err-answer.ensures.counts
-
-pub returns-in_err-give_held-clause-finishes : goal.returns-in_err-give_held-clause-finishes
-returns-in_err-give_held-clause-finishes g c =
+pub returns-in_err-give_held : goal.returns-in_err-give_held
+returns-in_err-give_held g c =
     let p = err_from_is_err_and c.from_residual-in_err-give_held.result c.from_residual-in_err-give_held.ensures.1 in
     let ended : c.finish.new.self.ended ≡ true = search rules in
-    rw (p.1, p.2)
-    (end_unwritten c.args.devices.now c.answer.new.devices c.give_held.new.devices c.args.self.now c.answer.new.self.out.items
-    (end_answered c.args.devices.now c.answer.new.devices c.args.self.now c.answer.new.self.engine c.finish.new.self c.clear.new.self.items c.answer.new.self.out.items c.in_ok-answer.field-0 c.clear.ensures.items c.finish.ensures.stream ended c.in_ok-answer.ensures.writes)
-    c.in_err-give_held.ensures.gives c.in_err-give_held.ensures.shelf_and_archive)
+    let r = c.in_err-give_held.ensures in
+    rw (p.1, p.2) (record {
+      finishes = λ k seen h none.
+          came_unwritten
+          (next_answered c.answer.new.self.engine c.answer.new.self.out.items
+          (holding_none c.clear.ensures.items h.so_far)
+          (last_line c.finish.new.self seen (c.finish.ensures.stream seen h.in_hand) ended)
+          c.in_ok-answer.field-0 c.in_ok-answer.ensures.writes c.in_ok-answer.ensures.counts)
+          r.gives r.shelf_and_archive r.counts;
+    })
 
-pub returns-in_err-give_held-clause-counts : goal.returns-in_err-give_held-clause-counts
-returns-in_err-give_held-clause-counts g c =
-    let p = err_from_is_err_and c.from_residual-in_err-give_held.result c.from_residual-in_err-give_held.ensures.1 in
-    rw (p.1, p.2)
-    (counts_then c.args.devices.now c.answer.new.devices _ _ c.in_ok-answer.ensures.counts c.in_err-give_held.ensures.counts)
-
-pub returns-clause-finishes : goal.returns-clause-finishes
-returns-clause-finishes g c =
+pub returns : goal.returns
+returns g c =
     let ended : c.finish.new.self.ended ≡ true = search rules in
-    end_given c.args.devices.now c.answer.new.devices c.give_held.new.devices c.args.self.now c.answer.new.self.out.items
-    (end_answered c.args.devices.now c.answer.new.devices c.args.self.now c.answer.new.self.engine c.finish.new.self c.clear.new.self.items c.answer.new.self.out.items c.in_ok-answer.field-0 c.clear.ensures.items c.finish.ensures.stream ended c.in_ok-answer.ensures.writes)
-    c.in_ok-give_held.ensures.gives c.in_ok-give_held.ensures.shelf_and_archive
-
-pub returns-clause-counts : goal.returns-clause-counts
-returns-clause-counts g c
-    = counts_then c.args.devices.now c.answer.new.devices _ _ c.in_ok-answer.ensures.counts c.in_ok-give_held.ensures.counts
+    let r = c.in_ok-give_held.ensures in
+    let w = c.in_ok-answer.ensures.writes in
+    record {
+      finishes = λ k seen h none.
+          finished c.args.devices.now c.clear.new.self.items w.0 c.in_ok-answer.field-0 none w.1
+          (next_answered c.answer.new.self.engine c.answer.new.self.out.items
+          (holding_none c.clear.ensures.items h.so_far)
+          (last_line c.finish.new.self seen (c.finish.ensures.stream seen h.in_hand) ended)
+          c.in_ok-answer.field-0 w c.in_ok-answer.ensures.counts)
+          r.gives r.shelf_and_archive r.counts;
+    }

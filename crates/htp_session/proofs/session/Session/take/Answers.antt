@@ -1,77 +1,64 @@
 -- What stands after one line more.
-use Rattle.std.proofs.Common.{◌≡◌, take, arith}
+use Rattle.std.proofs.Common.{◌≡◌, ◌++◌, take, arith, append-nil}
 use Rattle.std.proofs.lemmas.Result.{err_from_is_err_and}
 use Rattle.std.proofs.lemmas.Grind.{common_steps}
-use Rattle.htp_session.proofs.Feeding.{held_nothing}
-use Rattle.hex_devices.proofs.CountLaws.{counts_nothing, counts_then}
-use Rattle.htp_session.proofs.Calling.{take_unwritten, take_relieved, take_stopped, take_on}
-use Rattle.htp_session.proofs.Calling.{take_quit, take_ended}
+use Rattle.htp_session.proofs.Pieces.{next_seen, rest_taken}
+use Rattle.htp_session.proofs.Outcomes.{came_unwritten}
+use Rattle.htp_session.proofs.Feeding.{stands_passing}
 use Rattle.htp_session.proofs.session.Session.take.Goals as goal
 
 pub lines-init : goal.lines-init
 lines-init g c = record {
   in_piece = omega arith;
-  holds = held_nothing _ _ c.args.self.now.engine c.args.self.now.splitter _ c.clear.ensures.items;
-  counts = counts_nothing _;
+  stands = λ k seen h. rw (c.clear.ensures.items, append-nil seen) h;
 }
 
-pub returns-in_err-relieve-clause-takes : goal.returns-in_err-relieve-clause-takes
-returns-in_err-relieve-clause-takes g c =
+pub returns-in_err-relieve : goal.returns-in_err-relieve
+returns-in_err-relieve g c =
     let p = err_from_is_err_and c.from_residual.result c.from_residual.ensures.1 in
-    rw (p.1, p.2)
-    (take_unwritten c.args.devices.now c.lines.devices c.relieve.new.devices c.args.self.now c.lines.self.engine c.lines.self.splitter _ c.args.piece.now c.lines.at
-    c.lines.invariant.holds c.in_err-relieve.ensures.part c.in_err-relieve.ensures.shelf_and_archive)
+    let r = c.in_err-relieve.ensures in
+    rw (p.1, p.2) (record {
+      takes = λ k seen h. came_unwritten (c.lines.invariant.stands k seen h).so_far r.part
+          r.shelf_and_archive r.counts;
+    })
 
-pub returns-in_err-relieve-clause-counts : goal.returns-in_err-relieve-clause-counts
-returns-in_err-relieve-clause-counts g c =
-    let p = err_from_is_err_and c.from_residual.result c.from_residual.ensures.1 in
-    rw (p.1, p.2)
-    (counts_then c.args.devices.now c.lines.devices _ _ c.lines.invariant.counts c.in_err-relieve.ensures.counts)
-
-pub returns-in_err-moved-clause-takes : goal.returns-in_err-moved-clause-takes
-returns-in_err-moved-clause-takes g c =
+pub returns-in_err-moved : goal.returns-in_err-moved
+returns-in_err-moved g c =
     let p = err_from_is_err_and c.from_residual-in_err-moved.result c.from_residual-in_err-moved.ensures.1 in
-    rw (p.1, p.2)
-    (take_stopped c.args.devices.now c.relieve.new.devices c.advance.new.devices c.args.self.now
-    (record c.lines.self { out = c.relieve.new.held }) c.advance.new.self c.args.piece.now c.lines.at c.in_err-moved.field-0.0
-    (take_relieved c.args.devices.now c.lines.devices c.relieve.new.devices c.args.self.now c.lines.self.engine c.lines.self.splitter _ c.relieve.new.held.items _
-    c.lines.invariant.holds c.in_ok-relieve.ensures.passes c.in_ok-relieve.ensures.shelf_and_archive)
-    c.in_err-moved.ensures.advances)
+    let piece = c.args.piece.now in
+    let r = c.in_ok-relieve.ensures in
+    rw (p.1, p.2) (record {
+      takes = λ k seen h. c.in_err-moved.ensures.advances k (seen ++ take c.lines.at piece)
+          (seen ++ piece) (rest_taken seen piece c.lines.at)
+          (stands_passing (c.lines.invariant.stands k seen h) r.passes r.shelf_and_archive r.counts);
+    })
 
-pub returns-in_err-moved-clause-counts : goal.returns-in_err-moved-clause-counts
-returns-in_err-moved-clause-counts g c =
-    let p = err_from_is_err_and c.from_residual-in_err-moved.result c.from_residual-in_err-moved.ensures.1 in
-    rw (p.1, p.2)
-    (counts_then c.args.devices.now c.lines.devices _ _ c.lines.invariant.counts
-    (counts_then c.lines.devices c.relieve.new.devices _ _ c.in_ok-relieve.ensures.counts c.in_err-moved.ensures.counts))
-
-pub returns-then-moved-clause-takes : goal.returns-then-moved-clause-takes
-returns-then-moved-clause-takes g c =
-    take_quit c.args.devices.now c.relieve.new.devices c.advance.new.devices c.args.self.now
-    (record c.lines.self { out = c.relieve.new.held }) c.advance.new.self c.args.piece.now c.lines.at c.in_ok-moved.moved c.if-moved.true
-    (take_relieved c.args.devices.now c.lines.devices c.relieve.new.devices c.args.self.now c.lines.self.engine c.lines.self.splitter _ c.relieve.new.held.items _
-    c.lines.invariant.holds c.in_ok-relieve.ensures.passes c.in_ok-relieve.ensures.shelf_and_archive)
-    c.in_ok-moved.ensures.advances
-
-pub returns-then-moved-clause-counts : goal.returns-then-moved-clause-counts
-returns-then-moved-clause-counts g c =
-    counts_then c.args.devices.now c.lines.devices _ _ c.lines.invariant.counts
-    (counts_then c.lines.devices c.relieve.new.devices _ _ c.in_ok-relieve.ensures.counts c.in_ok-moved.ensures.counts)
+pub returns-then-moved : goal.returns-then-moved
+returns-then-moved g c =
+    let piece = c.args.piece.now in
+    let r = c.in_ok-relieve.ensures in
+    record {
+      takes = λ k seen h.
+          let m = c.in_ok-moved.ensures.advances k (seen ++ take c.lines.at piece) (seen ++ piece)
+          (rest_taken seen piece c.lines.at)
+          (stands_passing (c.lines.invariant.stands k seen h) r.passes r.shelf_and_archive r.counts) in
+          rw c.if-moved.true at m;
+    }
 
 pub lines-preserved : goal.lines-preserved
-lines-preserved g c = record {
-  in_piece = grind (arith, common_steps, c.in_ok-moved.ensures.used.1);
-  holds = take_on c.args.devices.now c.relieve.new.devices c.advance.new.devices c.args.self.now
-      (record c.lines.self { out = c.relieve.new.held }) c.advance.new.self c.args.piece.now c.lines.at c.in_ok-moved.moved c.if-moved.false
-      (take_relieved c.args.devices.now c.lines.devices c.relieve.new.devices c.args.self.now c.lines.self.engine c.lines.self.splitter _ c.relieve.new.held.items _
-      c.lines.invariant.holds c.in_ok-relieve.ensures.passes c.in_ok-relieve.ensures.shelf_and_archive)
-      c.in_ok-moved.ensures.advances;
-  counts = counts_then c.args.devices.now c.lines.devices _ _ c.lines.invariant.counts
-      (counts_then c.lines.devices c.relieve.new.devices _ _ c.in_ok-relieve.ensures.counts c.in_ok-moved.ensures.counts);
-}
+lines-preserved g c =
+    let piece = c.args.piece.now in
+    let r = c.in_ok-relieve.ensures in
+    record {
+      in_piece = grind (arith, common_steps, c.in_ok-moved.ensures.used.1);
+      stands = λ k seen h.
+          let m = c.in_ok-moved.ensures.advances k (seen ++ take c.lines.at piece) (seen ++ piece)
+          (rest_taken seen piece c.lines.at)
+          (stands_passing (c.lines.invariant.stands k seen h) r.passes r.shelf_and_archive r.counts) in
+          rw (← next_seen seen piece c.lines.at c.in_ok-moved.moved.used) (rw c.if-moved.false at m);
+    }
 
-pub returns-clause-takes : goal.returns-clause-takes
-returns-clause-takes g c =
+pub returns : goal.returns
+returns g c =
     let whole : take c.lines.at c.args.piece.now ≡ c.args.piece.now = grind (arith, common_steps) in
-    take_ended c.args.devices.now c.lines.devices c.args.self.now c.lines.self
-    (take c.lines.at c.args.piece.now) c.args.piece.now whole c.lines.invariant.holds
+    record { takes = λ k seen h. rw whole at (c.lines.invariant.stands k seen h) }

@@ -1,15 +1,15 @@
-use Rattle.std.proofs.Common.{◌≤◌, ◌-◌, None, length, take}
-use Rattle.hex_devices.specs.Devices.{CountsStop}
-use Rattle.htp_session.proofs.Calling.{HoldsTo}
+use Rattle.std.proofs.Common.{◌≤◌, ◌-◌, List, ℕ, [], ◌++◌, length, take}
+use Rattle.htp_session.specs.Sessions.{Conversation, Stands}
 use Rattle.htp_session.proofs.session.Session.take.Given as goal
 
--- what was answered so far, where the session stands, and that no fault was counted
+-- each line that ended so far was answered
 abbrev pub invariant-lines : goal.invariant-lines
 invariant-lines g l = record {
   in_piece : l.at ≤ length l.piece;
-  holds : HoldsTo l.fn.devices l.devices l.fn.self l.self.out.items l.self.engine l.self.splitter
-      (take l.at l.piece);
-  counts : CountsStop l.fn.devices l.devices None;
+  stands : (c : Conversation) → (seen : List ℕ)
+      → Stands c l.fn.devices l.fn.self.engine l.fn.self.splitter [] seen (seen ++ l.piece)
+      → Stands c l.devices l.self.engine l.self.splitter l.self.out.items
+      (seen ++ take l.at l.piece) (seen ++ l.piece);
 }
 
 abbrev pub decreases-lines : goal.decreases-lines
