@@ -9,7 +9,7 @@ use Rattle.hex_game.specs.Moves.{step_of}
 use Rattle.hex_game.specs.declared.moves.Move.TheVariants.{Stone}
 use Rattle.hexd_args.specs.declared.settings.Options.{Options}
 use Rattle.hex_plan.specs.Good.{IsDecidedBySearch}
-use Rattle.hex_plan.specs.Laws.{WinsBy}
+use Rattle.hex_plan.specs.Plans.{WinsBy}
 use Rattle.hex_plan.specs.Turns.{TurnData}
 use Rattle.hex_plan.specs.declared.types.Plan.{Plan}
 use Rattle.hex_plan.specs.declared.types.Plan.TheVariants.{Win, Search}

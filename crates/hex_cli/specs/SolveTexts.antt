@@ -1,5 +1,5 @@
 -- What mode solve answers.
-use Rattle.std.specs.Prelude.{◌≡◌, ◌⊎◌, ◌-◌, ◌*◌, ◌^◌, ◌<◌, ◌≤◌, ℕ, Bool, true, false}
+use Rattle.std.specs.Prelude.{◌≡◌, ◌⊎◌, ◌-◌, ◌*◌, ◌<◌, ℕ, Bool, true, false}
 use Rattle.std.specs.Prelude.{List, [], ◌++◌, Option, Some, None, IfSome, codes, length}
 use Rattle.std.specs.Fmt.{decimal}
 use Rattle.std.specs.List.{slice_get}
@@ -10,16 +10,15 @@ use Rattle.hex_cells.specs.declared.colours.Colour.{Colour}
 use Rattle.hex_cells.specs.declared.colours.Colour.TheVariants.{Black}
 use Rattle.hex_board.specs.Joined.{winner_of}
 use Rattle.hex_board.specs.Positions.{Position}
-use Rattle.hex_board.specs.Wins.{Wins, empty_count}
+use Rattle.hex_board.specs.Wins.{Wins}
 use Rattle.win_cert.specs.Texts.{cert_text}
 use Rattle.win_cert.specs.Writable.{IsWritable}
 use Rattle.win_cert.specs.declared.certs.TheConstants.{MOST_LINES}
 use Rattle.hex_game.specs.Games.{GameData, board_of}
 use Rattle.hex_game.specs.declared.moves.Step.{Step}
 use Rattle.sgf_game.specs.RecordOf.{IsGameOf}
-use Rattle.hex_solve.specs.Deciding.{lines_needed, positions_needed}
 use Rattle.hex_found.specs.Found.{Certifies}
-use Rattle.hex_solve.specs.Solved.{IsCellToTry, IsOpenBoard, IsOwnReport, few_cells}
+use Rattle.hex_solve.specs.Solved.{IsCellToTry, IsOpenBoard}
 use Rattle.hex_solve.specs.declared.answers.Solved.{Solved}
 use Rattle.hex_solve.specs.declared.answers.Solved.TheVariants.{Won, Unknown, TooLong, Open}
 use Rattle.hex_cli.specs.declared.solutions.SolveOptions.{SolveOptions}
@@ -53,24 +52,16 @@ IsWritableAnswer size (Unknown spent own best) = IfSome best (λ cell. cell < si
 IsWritableAnswer size (TooLong winner lines) = Unit {0}
 IsWritableAnswer size (Open full) = Unit {0}
 
--- What the solver may answer, with connections or without and with this budget, of the position p
--- with `mover` to place. Who is told to win does, whatever the other does. His certificate shows
--- it, and without connections it has at most two lines for each position that the search needs; or
--- by that search it has as many lines as are told, or more if that is the greatest number of 64
--- bits: more than one may have, at most two for each of these positions, and then more cells are
--- empty than a few. If nobody is told to win, the budget is spent, the search needs more, and the
--- cell that is thought best is empty; or a full board keeps the stones of p, and nobody is joined
--- on it.
-abbrev pub MayBeAnswered : Bool → ℕ → Position → Colour → Solved → Type 0
-MayBeAnswered hsearch budget p mover (Won winner cert) = Wins winner p mover
-    × Certifies p mover winner cert
-    × (hsearch ≡ false → length cert.lines ≤ 2 * positions_needed p mover)
-MayBeAnswered hsearch budget p mover (Unknown spent own best) = (spent ≡ budget)
-    × (budget < positions_needed p mover) × IsOwnReport p mover hsearch own × IsCellToTry p best
-MayBeAnswered hsearch budget p mover (TooLong winner lines) = Wins winner p mover
-    × (MOST_LINES < lines) × (lines ≤ 2 * positions_needed p mover) × (few_cells < empty_count p)
-    × (lines < 2 ^ 64 - 1 → lines ≡ lines_needed winner p mover)
-MayBeAnswered hsearch budget p mover (Open full) = IsOpenBoard p full
+-- What the solver may answer with this budget, of the position p with `mover` to place. Who is told
+-- to win does, whatever the other does: his certificate shows it, or has more lines than one may
+-- have. If nobody is told to win, the budget is spent, and the cell that is thought best is empty;
+-- or a full board keeps the stones of p, and nobody is joined on it.
+abbrev pub MayBeAnswered : ℕ → Position → Colour → Solved → Type 0
+MayBeAnswered budget p mover (Won winner cert) =
+    Wins winner p mover × Certifies p mover winner cert
+MayBeAnswered budget p mover (Unknown spent own best) = (spent ≡ budget) × IsCellToTry p best
+MayBeAnswered budget p mover (TooLong winner lines) = Wins winner p mover × (MOST_LINES < lines)
+MayBeAnswered budget p mover (Open full) = IsOpenBoard p full
 
 -- a player is joined on the game's board, and the text says who
 abbrev pub IsOverText : GameData → List ℕ → Type 0
@@ -81,7 +72,7 @@ IsOverText game text = (winner : Colour) × (winner_of (board_of game) ≡ Some 
 abbrev pub IsSolvedText : SolveOptions → GameData → List ℕ → Type 0
 IsSolvedText asked game text =
     (solved : Solved) × (winner_of (board_of game) ≡ None)
-    × MayBeAnswered asked.hsearch asked.budget (board_of game) (next_mover game.steps) solved
+    × MayBeAnswered asked.budget (board_of game) (next_mover game.steps) solved
     × (text ≡ solved_text asked.best (board_of game).size solved)
 
 -- Mode solve: the text tells who wins the position of the game of which the bytes are a record; or

@@ -12,15 +12,13 @@ use Rattle.hex_board.proofs.Placed.{empty_on}
 use Rattle.hex_board.proofs.Search.{any_in, any_out}
 use Rattle.tree_words.specs.Complete.{HasEmpties}
 use Rattle.tree_words.specs.Settings.{IsAny}
-use Rattle.conn_store.specs.Stores.{StoreData}
-use Rattle.hex_plan.specs.Plans.{AllowsEmpties, IsFoundPlan, IsMustplay, IsPlannedBy}
-use Rattle.hex_plan.specs.Plans.{IsPlannedFor}
+use Rattle.hex_plan.specs.Plans.{AllowsEmpties, IsFree}
+use Rattle.hex_plan.specs.Resting.{IsConnected, IsFoundPlan, IsMustplay, RestsOn}
 use Rattle.hex_plan.specs.declared.plans.Planned.{Planned}
 use Rattle.hex_plan.proofs.Sought.{rests}
 use Rattle.hex_plan.specs.declared.threats.Threat.{Threat}
 use Rattle.hex_plan.specs.declared.types.Plan.{Plan}
 use Rattle.hex_plan.specs.declared.types.Plan.TheVariants.{Win, Search}
-use Rattle.std.specs.declared.option.Option.{Option}
 
 -- the board has an empty cell
 abbrev pub HasRoom : Position → Type 0
@@ -52,10 +50,10 @@ region_allowed board threats allowed false m w =
     not_lost : false ≡ true → ⊥
     not_lost e = absurd (cc)
 
-by_plan : (board : Position) (player : Colour) (plan : Plan) (own other : Option StoreData)
-    → IsPlannedBy board player plan own other → HasRoom board → AllowsEmpties board plan
-by_plan board player (Win cert cell) own other h w = tt
-by_plan board player (Search threats allowed lost) own other (d, e, p, q, n) w
+by_connections : (board : Position) (player : Colour) (plan : Plan) → IsConnected board player plan
+    → HasRoom board → AllowsEmpties board plan
+by_connections board player (Win cert cell) h w = tt
+by_connections board player (Search threats allowed lost) (d, e, n) w
     = region_allowed board threats allowed lost n.mustplay w
 
 -- the plan by a certificate that was found
@@ -65,18 +63,22 @@ by_found board player (Win cert cell) h w = tt
 by_found board player (Search threats allowed lost) (threat, is, found, empties, l) w
     = empties_allowed board allowed empties w
 
-pub planned_allows : (board : Position) (player : Colour) (hsearch : Bool) (solve look : ℕ)
-    (p : Planned) → IsPlannedFor board player hsearch solve look p → HasRoom board → AllowsEmpties board p.plan
-planned_allows board player true solve look p h w = elim (rests solve look board player p h) [
-  | inl g ↦ by_plan board player p.plan p.own p.other g w
-  | inr g ↦ by_found board player p.plan g.found w
+resting_allows : (board : Position) (player : Colour) (budget : ℕ) (plan : Plan)
+    → RestsOn board player true budget plan → HasRoom board → AllowsEmpties board plan
+resting_allows board player budget plan h w = elim (rests budget board player plan h) [
+  | inl g ↦ by_connections board player plan g w
+  | inr g ↦ by_found board player plan g.found w
 ]
-planned_allows board player false solve look p h w = subst (λ (v : Plan). AllowsEmpties board v) (sym h.plan)
-    (empties_allowed board h.allowed h.empties w)
 
-pub if_allows : {E : Type 0} (board : Position) (player : Colour) (hsearch : Bool) (solve look : ℕ)
-    (r : Result Planned E) → HasRoom board → IfOk r (IsPlannedFor board player hsearch solve look)
-    → IfOk r (λ p. AllowsEmpties board p.plan)
-if_allows board player hsearch solve look (Ok p) w h
-    = planned_allows board player hsearch solve look p h w
-if_allows board player hsearch solve look (Err e) w h = tt
+pub if_allows : {E : Type 0} (board : Position) (player : Colour) (budget : ℕ)
+    (r : Result Planned E) → HasRoom board
+    → IfOk r (λ (p : Planned). RestsOn board player true budget p.plan)
+    → IfOk r (λ (p : Planned). AllowsEmpties board p.plan)
+if_allows board player budget (Ok p) w h = resting_allows board player budget p.plan h w
+if_allows board player budget (Err e) w h = tt
+
+-- without a look for connections
+pub free_allows : (board : Position) (p : Planned) → HasRoom board → IsFree board p
+    → AllowsEmpties board p.plan
+free_allows board p w h = subst (λ (v : Plan). AllowsEmpties board v) (sym h.plan)
+    (empties_allowed board h.allowed h.empties w)

@@ -9,7 +9,7 @@ use Rattle.conn_store.specs.declared.entries.Kind.TheVariants.{Full, Semi}
 use Rattle.win_cert.specs.Cuts.{AreEdgeNumbers, HasEdgeEntryAt}
 use Rattle.std.proofs.lemmas.Option.{slice_get_within}
 use Rattle.hex_plan.specs.Planning.{AreWithin}
-use Rattle.hex_plan.specs.Plans.{IsEdgeEntry}
+use Rattle.hex_plan.specs.Resting.{IsEdgeEntry}
 
 pub first_there : (d : StoreData) (kind : Kind) (h : Held) → AreEdgeNumbers d kind h → 0 < h.count
     → HasEdgeEntryAt d (slice_index h.at 0)

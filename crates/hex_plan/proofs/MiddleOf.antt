@@ -12,7 +12,7 @@ use Rattle.conn_store.specs.Stores.{IsSound, StoreData}
 use Rattle.conn_store.specs.declared.entries.Cause.TheVariants.{AndEmpty}
 use Rattle.conn_store.specs.declared.entries.Entry.{Entry}
 use Rattle.conn_store.proofs.Chains.{ends_below}
-use Rattle.hex_plan.specs.Plans.{IsMiddle}
+use Rattle.hex_plan.specs.Resting.{IsMiddle}
 use Rattle.hex_plan.proofs.Middles.{IsOverCell, is_middle, over_cell}
 
 pub cause_of : (d : StoreData) (entries : List Entry) (n : ℕ) (a r : Entry) (i j : ℕ)

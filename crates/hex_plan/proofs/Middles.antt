@@ -22,7 +22,7 @@ use Rattle.conn_store.proofs.Edges.{linked_joins}
 use Rattle.conn_store.proofs.RuleEntries.{at_two}
 use Rattle.conn_store.proofs.Sureness.{same}
 use Rattle.win_cert.specs.Cuts.{IsEdgeEntryAt}
-use Rattle.hex_plan.specs.Plans.{IsMiddle}
+use Rattle.hex_plan.specs.Resting.{IsMiddle}
 use Rattle.hsearch.proofs.Steps.{at_second, at_first, kinds_apart}
 use Rattle.conn_store.proofs.RuleTruth.{taken_back}
 

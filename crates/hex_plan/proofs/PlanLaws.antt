@@ -1,29 +1,19 @@
 -- What plans say.
-use Rattle.std.proofs.Common.{◌≡◌, ◌⊎◌, ℕ, Bool, true, false, Option, Some, None, refl, sym}
-use Rattle.std.proofs.Common.{◌∙◌, ap, subst, inl, inr}
+use Rattle.std.proofs.Common.{◌≡◌, ℕ, Bool, true, false, Option, Some, None, refl, sym}
+use Rattle.std.proofs.Common.{◌∙◌, ap, subst}
 use Rattle.std.specs.Prelude.{is_some}
 use Rattle.std.specs.Option.{ForSome}
 use Rattle.hex_cells.specs.declared.colours.Colour.{Colour}
-use Rattle.hex_board.specs.Elements.{PlayerBoard}
 use Rattle.hex_board.specs.Joined.{winner_of}
 use Rattle.hex_board.specs.Positions.{IsPosition, Position, is_empty_at}
-use Rattle.conn_store.specs.Entries.{IsValid}
-use Rattle.conn_store.specs.Stores.{StoreData}
-use Rattle.conn_store.specs.declared.entries.Entry.{Entry}
-use Rattle.conn_store.specs.declared.entries.Kind.{Kind}
-use Rattle.conn_store.specs.declared.entries.Kind.TheVariants.{Full, Semi}
 use Rattle.tree_words.specs.Closing.{ClosedTree, IsClosed}
 use Rattle.tree_words.specs.Roots.{IsBest}
 use Rattle.tree_words.specs.Settings.{IsSetting}
 use Rattle.tree_words.specs.declared.settings.Knobs.{Knobs}
 use Rattle.win_cert.specs.declared.certs.Cert.{Cert}
-use Rattle.win_cert.specs.Laws.{WinsByCell}
-use Rattle.win_cert.specs.Writable.{IsWritable}
-use Rattle.win_cert.proofs.ClaimedMoves.{move_wins}
 use Rattle.hex_plan.specs.Good.{FollowsPlan, IsGood, IsLookedFor, IsSearchedFor, IsSequential}
 use Rattle.hex_plan.specs.Good.{IsTurnShape, looks_ahead}
-use Rattle.hex_plan.specs.Plans.{IsCertifiedWin, IsFoundPlan, IsFoundWin, IsPlanned, IsPlannedBy}
-use Rattle.hex_plan.specs.Plans.{IsPlannedFor, IsWinBy, IsWinningCell}
+use Rattle.hex_plan.specs.Plans.{IsCertifiedWin, IsPlan, IsPlanned, IsPlannedFor, IsWinBy}
 use Rattle.look_ahead.specs.Looked.{LookedData}
 use Rattle.hex_plan.specs.Turns.{TurnData, CanBeWritten, Decides, DecidesBy, IsDecided}
 use Rattle.hex_plan.specs.Turns.{IsSearchedBy, certificate_of}
@@ -31,99 +21,43 @@ use Rattle.hex_plan.specs.declared.plans.Planned.{Planned}
 use Rattle.hex_plan.specs.declared.settings.Means.{Means}
 use Rattle.hex_plan.specs.declared.types.Plan.{Plan}
 use Rattle.hex_plan.specs.declared.types.Plan.TheVariants.{Win, Search}
-use Rattle.hex_plan.proofs.Sought.{rests}
-
--- what a win by cell k rests on: an entry of the player's report, or a certificate that was found
-abbrev pub RestsOn : Position → Colour → Cert → ℕ → Type 0
-RestsOn board player cert k =
-    ((d : StoreData) × IsCertifiedWin board player cert k d) ⊎ IsFoundWin board player cert k
+use Rattle.hex_plan.proofs.Certified.{IsBoard}
 
 -- a plan that is a win by cell k
 abbrev pub WonBy : Position → Colour → Plan → ℕ → Type 0
 WonBy board player plan k =
-    (cert : Cert) × (plan ≡ Win cert k) × RestsOn board player cert k
+    (cert : Cert) × (plan ≡ Win cert k) × IsCertifiedWin board player cert k
 
-won_by : (board : Position) (player : Colour) (plan : Plan) (own other : Option StoreData) (k : ℕ)
-    → IsPlannedBy board player plan own other → IsWinBy plan k → WonBy board player plan k
-won_by board player (Win cert cell) own other k (d, e, f, h) w =
-    subst (λ (c : ℕ). WonBy board player (Win cert cell) c) w (cert, refl, inl (d, h))
-won_by board player (Search threats allowed lost) own other k h w = absurd w
+won_by : (board : Position) (player : Colour) (plan : Plan) (k : ℕ) → IsPlan board player plan
+    → IsWinBy plan k → WonBy board player plan k
+won_by board player (Win cert cell) k h w =
+    subst (λ (c : ℕ). WonBy board player (Win cert cell) c) w (cert, refl, h)
+won_by board player (Search threats allowed lost) k h w = absurd w
 
-found_by : (board : Position) (player : Colour) (plan : Plan) (k : ℕ)
-    → IsFoundPlan board player plan → IsWinBy plan k → WonBy board player plan k
-found_by board player (Win cert cell) k h w =
-    subst (λ (c : ℕ). WonBy board player (Win cert cell) c) w (cert, refl, inr h)
-found_by board player (Search threats allowed lost) k h w = absurd w
-
-won_for : (board : Position) (player : Colour) (hsearch : Bool) (solve look : ℕ) (p : Planned)
-    (k : ℕ) → IsPlannedFor board player hsearch solve look p → IsWinBy p.plan k → WonBy board player p.plan k
-won_for board player true solve look p k h w = elim (rests solve look board player p h) [
-  | inl g ↦ won_by board player p.plan p.own p.other k g w
-  | inr g ↦ found_by board player p.plan k g.found w
-]
-won_for board player false solve look p k h w
-    = absurd (subst (λ (v : Plan). IsWinBy v k) h.plan w)
+won_for : (board : Position) (player : Colour) (hsearch : Bool) (p : Planned) (k : ℕ)
+    → IsPlannedFor board player hsearch p → IsWinBy p.plan k → WonBy board player p.plan k
+won_for board player true p k h w = won_by board player p.plan k h w
+won_for board player false p k h w = absurd (subst (λ (v : Plan). IsWinBy v k) h.plan w)
 
 pub planned_win : (board : Position) (player : Colour) (means : Means) (p : Planned) (k : ℕ)
     → IsPlanned board player means p → IsWinBy p.plan k → WonBy board player p.plan k
-planned_win board player means p k h w
-    = won_for board player means.hsearch means.solve means.look p k h.rests w
-
--- the board is one
-abbrev pub IsBoard : Position → Type 0
-IsBoard board = IsPosition board.size board.black board.white
-
--- what a certificate that was found says of its cell
-pub found_cell : (board : Position) (player : Colour) (cert : Cert) (k : ℕ) → IsBoard board
-    → IsFoundWin board player cert k → WinsByCell cert k
-found_cell board player cert k on h =
-    move_wins cert k (subst (λ (v : Position). IsBoard v) (sym h.certifies.board) on)
-    h.certifies.accepted h.moved
-
--- the cell of a win is empty
-pub winning_empty : (d : StoreData) (a : Entry) (kind : Kind) (k : ℕ) → IsValid d.elements a
-    → IsWinningCell d a kind k → is_empty_at d.elements.board k ≡ true
-winning_empty d a Semi k v w = w.cell.0
-winning_empty d a Full k v w = v.empty k w.0
-
-cut_empty : (board : Position) (player : Colour) (cert : Cert) (k : ℕ) (d : StoreData)
-    → IsCertifiedWin board player cert k d → is_empty_at board k ≡ true
-cut_empty board player cert k d h =
-    let valid = h.report.report.sound.valid h.edges.0 h.entry h.edges.1.0 in
-    subst (λ (e : PlayerBoard). is_empty_at e.board k ≡ true) h.report.elements
-    (winning_empty d h.entry h.entry.kind k valid h.winning)
-
-won_empty : (board : Position) (player : Colour) (cert : Cert) (k : ℕ) → IsBoard board
-    → RestsOn board player cert k → is_empty_at board k ≡ true
-won_empty board player cert k on (inl (d, h)) = cut_empty board player cert k d h
-won_empty board player cert k on (inr h) =
-    subst (λ (v : Position). is_empty_at v k ≡ true) h.certifies.board
-    (found_cell board player cert k on h).empty
-
-won_writable : (board : Position) (player : Colour) (cert : Cert) (k : ℕ)
-    → RestsOn board player cert k → IsWritable cert
-won_writable board player cert k (inl (d, h)) = h.cut.writable
-won_writable board player cert k (inr h) = h.certifies.writable
+planned_win board player means p k h w = won_for board player means.hsearch p k h.plan w
 
 pub planned_empty : (board : Position) (player : Colour) (means : Means) (p : Planned) (k : ℕ)
-    → IsBoard board → IsPlanned board player means p → IsWinBy p.plan k
-    → is_empty_at board k ≡ true
-planned_empty board player means p k on h w =
-    let (cert, is, won) = planned_win board player means p k h w in
-    won_empty board player cert k on won
+    → IsPlanned board player means p → IsWinBy p.plan k → is_empty_at board k ≡ true
+planned_empty board player means p k h w =
+    let (cert, is, won) = planned_win board player means p k h w in won.empty
 
 -- a turn that a win decides
-pub decided_by_win : (t : TurnData) (means : Means) → IsBoard t.board
-    → IsPlanned t.board t.player means t.planned → IsWinBy t.planned.plan t.cell
-    → t.looked ≡ None → t.closed ≡ None → IsDecided t
-decided_by_win t means on h w l e =
+pub decided_by_win : (t : TurnData) (means : Means) → IsPlanned t.board t.player means t.planned
+    → IsWinBy t.planned.plan t.cell → t.looked ≡ None → t.closed ≡ None → IsDecided t
+decided_by_win t means h w l e =
     let (cert, is, won) = planned_win t.board t.player means t.planned t.cell h w in
-    let writable = won_writable t.board t.player cert t.cell won in
     record {
-      empty = won_empty t.board t.player cert t.cell on won;
+      empty = won.empty;
       decided = subst (λ (v : Plan). DecidesBy t v) (sym is) (l, e, refl);
       written = subst (λ (v : Plan). CanBeWritten (certificate_of v t.planned.loss)) (sym is)
-          writable;
+          won.writable;
     }
 
 pub good_win : (knobs : Knobs) (t : TurnData) (means : Means) → IsBoard t.board
@@ -134,7 +68,7 @@ good_win knobs t means on n h w l e =
     record {
       position = on;
       nobody = n;
-      empty = won_empty t.board t.player cert t.cell on won;
+      empty = won.empty;
       planned = h;
       follows = subst (λ (v : Plan). FollowsPlan knobs means t v) (sym is) (l, e, refl);
     }

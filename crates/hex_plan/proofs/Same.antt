@@ -32,7 +32,13 @@ same_shape : (knobs : Knobs) (now : Position) (mover : Colour) (number cells : �
     → IsTurnShape knobs now mover number cells a
     → IsTurnShape knobs now mover number cells b → a ≡ b
 same_shape knobs now mover number cells a b h k =
-    λ i. record { board = (h.board ∙ sym k.board) i; player = (h.player ∙ sym k.player) i; allowed = (h.allowed ∙ sym k.allowed) i; knobs = (h.knobs ∙ sym k.knobs) i }
+    λ i. record {
+      board = (h.board ∙ sym k.board) i;
+      player = (h.player ∙ sym k.player) i;
+      allowed
+          = (h.allowed ∙ sym k.allowed) i;
+      knobs = (h.knobs ∙ sym k.knobs) i;
+    }
 
 same_row : (s : Setting) (a b : List ℕ) (i : ℕ) → root_count s a ≡ root_count s b
     → rows_of s a ≡ rows_of s b → i < root_count s a → row_at s a i ≡ row_at s b i
@@ -72,7 +78,7 @@ pub record IsBare (knobs : Knobs) (t : TurnData) : Type 0 where
 -- if no connections are looked for a good turn has a tree, which was searched for it among all
 -- empty cells
 bare : (knobs : Knobs) (hsearch : Bool) (solve look : ℕ) (t : TurnData) → hsearch ≡ false
-    → IsPlannedFor t.board t.player hsearch solve look t.planned
+    → IsPlannedFor t.board t.player hsearch t.planned
     → FollowsPlan knobs (record { hsearch = hsearch; solve = solve; look = look }) t t.planned.plan
     → IsBare knobs t
 bare knobs true solve look t off h f = absurd (cc)
@@ -93,7 +99,7 @@ bare knobs false solve look t off h f =
 pub is_bare : (knobs : Knobs) (means : Means) (t : TurnData) → means.hsearch ≡ false
     → IsGood knobs means t → IsBare knobs t
 is_bare knobs means t off g
-    = bare knobs means.hsearch means.solve means.look t off g.planned.rests g.follows
+    = bare knobs means.hsearch means.solve means.look t off g.planned.plan g.follows
 
 rows_in_tree : (knobs : Knobs) (t : TurnData) (cells : ℕ) (c : ClosedTree) → knobs.workers ≡ 1
     → IsSearchedFor knobs t cells c → rows_of c.shape c.words ≡ rows_in (seq_of c.shape).0

@@ -11,7 +11,7 @@ use Rattle.win_cert.specs.declared.certs.Cert.{Cert}
 use Rattle.win_cert.specs.declared.verdicts.Verdict.TheVariants.{Yes}
 use Rattle.hex_found.specs.Found.{Certifies, IsFound, claim_for}
 use Rattle.hex_found.specs.declared.certificates.Found.{Found}
-use Rattle.hex_plan.specs.Plans.{ShowsLoss}
+use Rattle.hex_plan.specs.Resting.{IsFoundThreat}
 
 other_is : (a b : Colour) → (a ≡ b → ⊥) → a ≡ other_of b
 other_is Black Black n = absurd (n refl)
@@ -26,16 +26,20 @@ claims_full White = refl
 -- the certificate that was found is the other player's
 pub found_loss : (board : Position) (player : Colour) (found : Found) (copy : Cert)
     → IsFound board player found → (found.cert.player ≡ player → ⊥) → copy ≡ found.cert
-    → ShowsLoss board player copy
+    → Certifies board player (other_of player) copy
 found_loss board player found copy h n same =
-    let certifies : Certifies board player (other_of player) found.cert
-    = subst (λ (v : Colour). Certifies board player v found.cert)
-    (other_is found.cert.player player n) h.wins.certified in
+    subst (Certifies board player (other_of player)) (sym same)
+    (subst (λ (v : Colour). Certifies board player v found.cert)
+    (other_is found.cert.player player n) h.wins.certified)
+
+-- and the threat that it is
+pub found_threat : (board : Position) (player : Colour) (found : Found)
+    → IsFound board player found → (found.cert.player ≡ player → ⊥)
+    → IsFoundThreat board player (record { cert = found.cert; carrier = found.carrier })
+found_threat board player found h n =
+    let certifies = found_loss board player found found.cert h n refl in
     let claim : found.cert.claim ≡ Full = certifies.claims ∙ claims_full player in
-    subst (ShowsLoss board player) (sym same) (
-      found.carrier,
-      record {
-        certifies = certifies;
-        verdict = subst (λ (k : Kind). IsVerdict found.cert (Yes k found.carrier)) claim h.verdict;
-      },
-    )
+    record {
+      certifies = certifies;
+      verdict = subst (λ (k : Kind). IsVerdict found.cert (Yes k found.carrier)) claim h.verdict;
+    }

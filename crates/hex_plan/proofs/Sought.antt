@@ -5,49 +5,47 @@ use Rattle.std.specs.Prelude.{IfOk, Ok, Err, Result, if◌then◌else◌}
 use Rattle.hex_cells.specs.declared.colours.Colour.{Colour}
 use Rattle.hex_board.specs.Positions.{Position}
 use Rattle.win_cert.specs.declared.certs.Cert.{Cert}
-use Rattle.hex_plan.specs.Plans.{IsConnected, IsLossOf, IsPlanned, IsPlannedFor, IsSolved}
-use Rattle.hex_plan.specs.Plans.{IsWin, most_after, unlooked}
+use Rattle.hex_plan.specs.Plans.{IsLossOf, IsPlan, IsPlanned, IsPlannedFor, most_after}
+use Rattle.hex_plan.specs.Plans.{unlooked}
+use Rattle.hex_plan.specs.Resting.{IsConnected, IsSolved, RestsOn}
 use Rattle.hex_plan.specs.Turns.{CanBeWritten}
 use Rattle.hex_plan.specs.declared.plans.Planned.{Planned}
 use Rattle.hex_plan.specs.declared.settings.Means.{Means}
 use Rattle.hex_plan.specs.declared.types.Plan.{Plan}
+use Rattle.hex_plan.proofs.Certified.{IsBoard, plan_connected, plan_found}
 
--- whatever the budgets, a plan may rest on connections
-sought : (solve look : ℕ) (board : Position) (player : Colour) (p : Planned)
-    → IsConnected board player p → IsPlannedFor board player true solve look p
-sought zero zero board player p h = h
-sought zero (suc n) board player p h = inl h
-sought (suc m) look board player p h = inl h
+-- whatever the budget, a plan may rest on connections
+sought : (budget : ℕ) (board : Position) (player : Colour) (plan : Plan)
+    → IsConnected board player plan → RestsOn board player true budget plan
+sought zero board player plan h = h
+sought (suc m) board player plan h = inl h
 
-pub if_sought : {E : Type 0} (solve look : ℕ) (board : Position) (player : Colour)
-    (r : Result Planned E) → IfOk r (IsConnected board player)
-    → IfOk r (IsPlannedFor board player true solve look)
-if_sought solve look board player (Ok p) h = sought solve look board player p h
-if_sought solve look board player (Err e) h = tt
+pub if_sought : {E : Type 0} (budget : ℕ) (board : Position) (player : Colour)
+    (r : Result Planned E) → IfOk r (λ (p : Planned). IsConnected board player p.plan)
+    → IfOk r (λ (p : Planned). RestsOn board player true budget p.plan)
+if_sought budget board player (Ok p) h = sought budget board player p.plan h
+if_sought budget board player (Err e) h = tt
 
 -- with a budget, on a certificate
-pub solved : (solve look : ℕ) (board : Position) (player : Colour) (p : Planned) → 0 < solve
-    → IsSolved board player p → IsPlannedFor board player true solve look p
-solved zero look board player p l h = absurd (omega (arith, l))
-solved (suc n) look board player p l h = inr h
-
--- with a look-ahead, on one of a win
-pub solved_win : (solve look : ℕ) (board : Position) (player : Colour) (p : Planned) → 0 < look
-    → IsSolved board player p → IsWin p.plan → IsPlannedFor board player true solve look p
-solved_win zero zero board player p l h w = absurd (omega (arith, l))
-solved_win zero (suc n) board player p l h w = inr (h, w)
-solved_win (suc m) look board player p l h w = inr h
+pub solved : (budget : ℕ) (board : Position) (player : Colour) (plan : Plan) → 0 < budget
+    → IsSolved board player plan → RestsOn board player true budget plan
+solved zero board player plan l h = absurd (omega (arith, l))
+solved (suc n) board player plan l h = inr h
 
 -- and on nothing else
-pub rests : (solve look : ℕ) (board : Position) (player : Colour) (p : Planned)
-    → IsPlannedFor board player true solve look p
-    → IsConnected board player p ⊎ IsSolved board player p
-rests zero zero board player p h = inl h
-rests zero (suc n) board player p h = elim h [
-  | inl g ↦ inl g
-  | inr g ↦ inr g.0
+pub rests : (budget : ℕ) (board : Position) (player : Colour) (plan : Plan)
+    → RestsOn board player true budget plan
+    → IsConnected board player plan ⊎ IsSolved board player plan
+rests zero board player plan h = inl h
+rests (suc m) board player plan h = h
+
+-- what it rests on certifies it
+resting_plan : (budget : ℕ) (board : Position) (player : Colour) (plan : Plan) → IsBoard board
+    → RestsOn board player true budget plan → IsPlan board player plan
+resting_plan budget board player plan on h = elim (rests budget board player plan h) [
+  | inl g ↦ plan_connected board player plan on g
+  | inr g ↦ plan_found board player plan on g.found
 ]
-rests (suc m) look board player p h = h
 
 -- where no position was entered, at most any number were
 pub none_within : {E : Type 0} (most : ℕ) (r : Result Planned E)
@@ -55,38 +53,42 @@ pub none_within : {E : Type 0} (most : ℕ) (r : Result Planned E)
 none_within most (Ok p) h = let none : p.entered ≡ 0 = h in omega (arith, none)
 none_within most (Err e) h = tt
 
--- with a look for connections, a plan and what was entered for it make what is planned before a
--- look-ahead
+-- with a look for connections, what a plan rests on and what was entered for it make what is
+-- planned before a look-ahead
 pub if_planned : {E : Type 0} (means : Means) (board : Position) (player : Colour)
-    (r : Result Planned E) → means.hsearch ≡ true
-    → IfOk r (IsPlannedFor board player true means.solve 0)
+    (r : Result Planned E) → IsBoard board → means.hsearch ≡ true
+    → IfOk r (λ (p : Planned). RestsOn board player true means.solve p.plan)
     → IfOk r (λ (p : Planned). p.entered ≤ means.solve)
     → IfOk r (λ (p : Planned). IsLossOf board player p.plan p.loss)
     → IfOk r (IsPlanned board player (unlooked means))
-if_planned means board player (Ok p) on h w l = record {
-  rests = subst (λ (b : Bool). IsPlannedFor board player b means.solve 0 p) (sym on) h;
+if_planned means board player (Ok p) at on h w l = record {
+  plan = subst (λ (b : Bool). IsPlannedFor board player b p) (sym on)
+      (resting_plan means.solve board player p.plan at h);
   within = subst (λ (b : Bool). p.entered ≤ (if b then means.solve + 0 else 0)) (sym on)
       (omega (arith, w));
   loss = l;
 }
-if_planned means board player (Err e) on h w l = tt
+if_planned means board player (Err e) at on h w l = tt
 
--- and that is planned with a look-ahead too
-looked_for : (hsearch : Bool) (solve look : ℕ) (board : Position) (player : Colour) (p : Planned)
-    → IsPlannedFor board player hsearch solve 0 p → IsPlannedFor board player hsearch solve look p
-looked_for false solve look board player p h = h
-looked_for true zero look board player p h = sought zero look board player p h
-looked_for true (suc m) look board player p h = h
+-- so with the means as they are
+pub if_rests : {E : Type 0} (means : Means) (board : Position) (player : Colour)
+    (r : Result Planned E) → means.hsearch ≡ true
+    → IfOk r (λ (p : Planned). RestsOn board player true means.solve p.plan)
+    → IfOk r (λ (p : Planned). RestsOn board player means.hsearch means.solve p.plan)
+if_rests means board player (Ok p) on h =
+    subst (λ (b : Bool). RestsOn board player b means.solve p.plan) (sym on) h
+if_rests means board player (Err e) on h = tt
 
 within_more : (hsearch : Bool) (entered solve more : ℕ)
     → entered ≤ (if hsearch then solve + 0 else 0) → entered ≤ (if hsearch then solve + more else 0)
 within_more false entered solve more l = l
 within_more true entered solve more l = omega (arith, l)
 
+-- what is planned before a look-ahead is planned with one too
 pub planned_more : (means : Means) (board : Position) (player : Colour) (p : Planned)
     → IsPlanned board player (unlooked means) p → IsPlanned board player means p
 planned_more means board player p h = record {
-  rests = looked_for means.hsearch means.solve means.look board player p h.rests;
+  plan = h.plan;
   within = within_more means.hsearch p.entered means.solve (most_after means) h.within;
   loss = h.loss;
 }
@@ -108,7 +110,7 @@ no_loss board player (Err e) h = tt
 pub can_write : (board : Position) (player : Colour) (plan : Plan) (loss : Option Cert)
     → IsLossOf board player plan loss → CanBeWritten loss
 can_write board player plan None h = tt
-can_write board player plan (Some cert) h = h.1.1.certifies.writable
+can_write board player plan (Some cert) h = h.1.writable
 
 pub if_written : {E : Type 0} (board : Position) (player : Colour) (r : Result Planned E)
     → IfOk r (λ (p : Planned). IsLossOf board player p.plan p.loss)

@@ -92,7 +92,8 @@ full_wins e a k on h v t f i =
     let s = stones_of e.board e.player in
     wins_after_own e (members a.carrier 121) k (without_cell a.carrier k) on
     (rest_empty e.board e.player a.carrier k v.empty)
-    (sure_less (members a.carrier 121) Full (EdgesLink e) s a.carrier k (linked_kept e (edge_element e false) (edge_element e true)) i (entry_says e a Full h t f))
+    (sure_less (members a.carrier 121) Full (EdgesLink e) s a.carrier k
+    (linked_kept e (edge_element e false) (edge_element e true)) i (entry_says e a Full h t f))
 
 -- ---- two full entries that meet in a cell
 
@@ -146,4 +147,5 @@ middle_wins e entry a b x u y k on h i va vb ta tb r g =
     let n = members a.carrier 121 + members b.carrier 121 in
     wins_after_own e n k (both_of a b) on
     (still_empty e.board e.player (both_of a b) k (empty_both e a.carrier b.carrier va.empty vb.empty) (not_in_both e a b x u y k va vb r g.1))
-    (says_edges e entry n Full (with_cell s k) (both_of a b) h (between_back e n Full entry x y (with_cell s k) (both_of a b) i (chain_sure e a b x u y k on ta tb r g)))
+    (says_edges e entry n Full (with_cell s k) (both_of a b) h
+    (between_back e n Full entry x y (with_cell s k) (both_of a b) i (chain_sure e a b x u y k on ta tb r g)))

@@ -12,7 +12,7 @@ use Rattle.conn_store.specs.declared.entries.Entry.{Entry}
 use Rattle.conn_store.specs.declared.entries.Kind.{Kind}
 use Rattle.conn_store.specs.declared.entries.Kind.TheVariants.{Full, Semi}
 use Rattle.win_cert.specs.Cuts.{IsEdgeEntryAt}
-use Rattle.hex_plan.specs.Plans.{IsMiddle, IsWinningCell}
+use Rattle.hex_plan.specs.Resting.{IsMiddle, IsWinningCell}
 use Rattle.hex_plan.proofs.MiddleOf.{read_is}
 use Rattle.hex_plan.proofs.Middles.{full_has_cell}
 

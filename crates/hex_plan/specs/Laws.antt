@@ -2,14 +2,12 @@
 -- and one worker decides.
 use Rattle.std.specs.Prelude.{◌≡◌, ℕ, Bool, true, false, List, Some}
 use Rattle.std.specs.List.{slice_get}
-use Rattle.hex_cells.specs.Colours.{other_of}
 use Rattle.hex_cells.specs.Sets.{has}
 use Rattle.hex_cells.specs.declared.colours.Colour.{Colour}
-use Rattle.hex_board.specs.Positions.{IsPosition, Position, is_empty_at, placed}
-use Rattle.hex_board.specs.Wins.{Wins}
+use Rattle.hex_board.specs.Positions.{Position, is_empty_at}
 use Rattle.tree_words.specs.declared.settings.Knobs.{Knobs}
 use Rattle.hex_plan.specs.Good.{IsGood}
-use Rattle.hex_plan.specs.Plans.{IsPlanned, IsWin, IsWinBy}
+use Rattle.hex_plan.specs.Plans.{IsPlanned, IsWin, IsWinBy, LosesBy, WinsBy}
 use Rattle.hex_plan.specs.Reports.{reported_rows, sequential_rows}
 use Rattle.hex_plan.specs.TurnTexts.{texts_of}
 use Rattle.hex_plan.specs.Turns.{TurnData}
@@ -20,14 +18,6 @@ use Rattle.hex_plan.specs.declared.types.Plan.{Plan}
 use Rattle.hex_plan.specs.declared.types.Plan.TheVariants.{Search}
 
 -- ---- plans
-
--- after the player's stone on cell k he wins against every reply
-abbrev pub WinsBy : Position → Colour → ℕ → Type 0
-WinsBy board player k = Wins player (placed board player k) (other_of player)
-
--- after the player's stone on cell k the other player wins with himself to move
-abbrev pub LosesBy : Position → Colour → ℕ → Type 0
-LosesBy board player k = Wins (other_of player) (placed board player k) (other_of player)
 
 -- if the plan is a win, its cell wins
 abbrev pub WinsAsPlanned : Position → Colour → Plan → Type 0
@@ -50,8 +40,7 @@ LosesAsPlanned board player plan = (threats : List Threat) (allowed : ℕ)
 -- of each plan for a player on a board, with whatever means, this holds
 abbrev pub HoldsOfPlans : (Position → Colour → Plan → Type 0) → Type 0
 HoldsOfPlans Holds = (board : Position) (player : Colour) (means : Means) (p : Planned)
-    → IsPosition board.size board.black board.white → IsPlanned board player means p
-    → Holds board player p.plan
+    → IsPlanned board player means p → Holds board player p.plan
 
 -- ---- turns
 

@@ -1,4 +1,5 @@
 pub mod Plans
+pub mod Resting
 pub mod Planning
 pub mod Turns
 pub mod Openings

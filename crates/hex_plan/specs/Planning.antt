@@ -9,7 +9,10 @@ use Rattle.win_cert.specs.Cuts.{CertifiesEntry, HasLinesFor, IsEdgeEntryAt}
 use Rattle.hex_cells.specs.declared.colours.Colour.{Colour}
 use Rattle.hex_board.specs.Positions.{Position}
 use Rattle.win_cert.specs.declared.certs.Cert.{Cert}
-use Rattle.hex_plan.specs.Plans.{IsFoundPlan, IsLossOf, ShowsLoss}
+use Rattle.hex_cells.specs.Colours.{other_of}
+use Rattle.hex_found.specs.Found.{Certifies}
+use Rattle.hex_plan.specs.Plans.{IsLossOf}
+use Rattle.hex_plan.specs.Resting.{IsFoundPlan}
 use Rattle.hex_plan.specs.declared.threats.Threat.{Threat}
 use Rattle.hex_plan.specs.declared.types.Plan.{Plan}
 
@@ -60,4 +63,4 @@ pub record IsFoundFor (board : Position) (player : Colour) (budget : ℕ) (plan 
 -- the certificate, if there is one, shows that the board is lost, and it is known to be
 abbrev pub IsLossWhere : Position → Colour → Bool → Option Cert → Type 0
 IsLossWhere board player lost loss =
-    IfSome loss (λ cert. (lost ≡ true) × ShowsLoss board player cert)
+    IfSome loss (λ cert. (lost ≡ true) × Certifies board player (other_of player) cert)

@@ -1,7 +1,8 @@
 //! Wins by the stone of a look-ahead, which the solver certifies.
 
 ghost use Rattle.std.specs.Prelude.{◌≡◌, ◌⊎◌, ◌≤◌, ℕ, IfOk, IfSome};
-ghost use Rattle.hex_plan.specs.Plans.{IsFoundPlan, IsPlanned, IsSearchAmong, IsWin, unlooked};
+ghost use Rattle.hex_plan.specs.Plans.{IsPlanned, IsSearchAmong, IsWin, unlooked};
+ghost use Rattle.hex_plan.specs.Resting.{IsFoundPlan};
 ghost use Rattle.hex_plan.specs.Turns.{CanBeWritten};
 
 use super::plans::Planned;
@@ -38,6 +39,8 @@ pub fn plan_after(
     requires written { CanBeWritten planned.loss }
     ensures planned { IfOk result (IsPlanned board.now colour means) }
     ensures same { IfOk result (λ new. IsWin new.plan ⊎ (new.plan ≡ planned.plan)) }
+    ensures found { IfOk result
+        (λ new. IsFoundPlan board.now colour new.plan ⊎ (new.plan ≡ planned.plan)) }
     ensures written { IfOk result (λ new. CanBeWritten new.loss) }
 {
     if !means.looks_ahead() {
@@ -46,6 +49,7 @@ pub fn plan_after(
     let Some(cell) = sure_cell(looked) else {
         return Ok(planned);
     };
+    board.keeps();
     let Attempt {
         plan: found,
         entered: more,
@@ -54,15 +58,11 @@ pub fn plan_after(
     match found {
         None => Ok(Planned {
             plan: planned.plan,
-            own: planned.own,
-            other: planned.other,
             loss: planned.loss,
             entered,
         }),
         Some(FoundPlan { plan, .. }) => Ok(Planned {
             plan,
-            own: planned.own,
-            other: None,
             loss: None,
             entered,
         }),

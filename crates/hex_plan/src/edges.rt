@@ -3,7 +3,7 @@
 ghost use Rattle.std.specs.Prelude.{◌≡◌, false, IfNone, IfSome};
 ghost use Rattle.hex_board.specs.Elements.{are_joined};
 ghost use Rattle.conn_store.specs.declared.entries.Entry.{Entry};
-ghost use Rattle.hex_plan.specs.Plans.{IsEdgeEntry};
+ghost use Rattle.hex_plan.specs.Resting.{IsEdgeEntry};
 ghost use Rattle.win_cert.specs.Cuts.{HasEdgeEntryAt};
 
 use conn_store::Kind;

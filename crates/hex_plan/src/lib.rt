@@ -1,14 +1,15 @@
 //! Turns: what the engine plans and decides at each `genmove`, and where the turns go.
 //!
 //! **Nouns.** A *plan* ([`types::Plan`]) is a win with its certificate, or a search among allowed
-//! cells. It rests on the *reports* of both players, sound and closed sets of connections
-//! ([`Planned`]), or on a certificate that the solver found. The *means* ([`Means`]) say which of
-//! these are used. A *threat* ([`Threat`]) is a certificate that the other player wins if he is to
-//! place next, with its carrier; the *mustplay region* is the cells that lie in each threat's
-//! carrier. A *turn* ([`Turn`]) is a board, the player to move there, its number, what was
-//! planned, the closed tree that was searched for it, if one was, and the cell that was chosen. An
-//! *archive* takes each turn ([`Archive`]). A turn is *good* for a session's knobs if it is what
-//! the session owes at that board: the definition `IsGood` of specs/Good.antt.
+//! cells. It rests on the *reports* of both players, sound and closed sets of connections, or on a
+//! certificate that the solver found. The *means* ([`Means`]) say which of these are used; what was
+//! planned ([`Planned`]) keeps none of the reports. A *threat* ([`Threat`]) is a certificate that
+//! the other player wins if he is to place next, with its carrier; the *mustplay region* is the
+//! cells that lie in each threat's carrier. A *turn* ([`Turn`]) is a board, the player to move
+//! there, its number, what was planned, the closed tree that was searched for it, if one was, and
+//! the cell that was chosen. An *archive* takes each turn ([`Archive`]). A turn is *good* for a
+//! session's knobs if it is what the session owes at that board: the definition `IsGood` of
+//! specs/Good.antt.
 //!
 //! **A caller** asks [`may_move`], plans, searches if the plan is a search, makes the turn and its
 //! texts, and hands it to an archive (`decided_turn` of turn_search is this up to the texts). After
@@ -29,12 +30,14 @@
 //!
 //! **What is proved.**
 //!
-//! - The plan ([`plan`], specs/Plans.antt) is a win if the player's own report has an entry between
-//!   his two edges. Otherwise it may rest on a certificate that was found: a win by the cell of its
-//!   claimed `move`, or, if the other player wins, a search of a lost board with this threat. Else
-//!   it is a search: among the cells that lie in the carrier of each semi entry of the other player
-//!   between his edges, or, if there is none such and the board is lost, among all empty cells.
-//! - Each certificate is accepted, and has the kind and the carrier of its entry.
+//! - The plan ([`plan`], specs/Resting.antt) is a win if the player's own report has an entry
+//!   between his two edges. Otherwise it may rest on a certificate that was found: a win by the
+//!   cell of its claimed `move`, or, if the other player wins, a search of a lost board with this
+//!   threat. Else it is a search: among the cells that lie in the carrier of each semi entry of the
+//!   other player between his edges, or, if there is none such and the board is lost, among all
+//!   empty cells. Each certificate is accepted, and has the kind and the carrier of its entry.
+//! - Whatever a plan rests on (specs/Plans.antt), the certificate of a win is accepted, and so is
+//!   that of each threat, with its carrier.
 //! - Beside the plan of a lost board may stand a certificate of that: it is accepted, is the other
 //!   player's, and claims that he wins whoever places first. Beside no other plan stands one.
 //! - After the cell of a win its player wins against every reply ([`certified_moves_win`]). Each
@@ -73,8 +76,8 @@
 //!   certified, and nothing is searched. The laws of one worker have connections off as a premise,
 //!   since the cell of a certified move depends on which connection was cut.
 //! - A threat is a certificate and a carrier. The claim gives the carrier too; it stands beside it
-//!   so that `mustplay` prints it without a look into the report. `IsThreat` ties both to one semi
-//!   entry, `IsFoundThreat` to the verdict of the checker.
+//!   so that `mustplay` prints it without a check. `IsCertifiedThreat` ties both to the verdict of
+//!   the checker, `IsThreat` to one semi entry too.
 //! - A certificate that was found wins by its claimed line, a `move`: the board of this line's
 //!   scope is that with the stone. If it claims another line the plan rests on connections.
 //! - A cell that the look-ahead knows to win has a certificate if the solver has one of the board

@@ -3,8 +3,8 @@
 ghost use Rattle.std.specs.Prelude.{◌≡◌, ◌≢◌, ◌<◌, ◌≤◌, All, false, IfOk, IfSome, length};
 ghost use Rattle.conn_store.specs.declared.entries.TheConstants.{MOST_SEMI};
 ghost use Rattle.hex_board.specs.Elements.{are_joined};
-ghost use Rattle.hex_found.specs.Found.{IsFound};
-ghost use Rattle.hex_plan.specs.Plans.{ShowsLoss};
+ghost use Rattle.hex_found.specs.Found.{Certifies, IsFound};
+ghost use Rattle.hex_cells.specs.Colours.{other_of};
 ghost use Rattle.hex_plan.specs.Planning.{AreWithin, IsLossWhere};
 
 use super::refusals::Memory;
@@ -45,7 +45,7 @@ fn loss_by(
     other: &Report,
 ) -> Result<Option<Cert>, Memory>
     requires { are_joined other.now.elements ≡ false }
-    ensures { IfOk result (λ loss. IfSome loss (ShowsLoss board.now colour)) }
+    ensures { IfOk result (λ loss. IfSome loss (Certifies board.now colour (other_of colour))) }
 {
     let draft = draft_of(alloc, other)?;
     match certified(alloc, board, colour, draft)? {
@@ -59,7 +59,7 @@ fn loss_by(
 fn shown_by(found: Found, board: &Board, colour: Colour) -> Cert
     requires found { IsFound board.now colour found }
     requires player { found.cert.player ≢ colour }
-    ensures { ShowsLoss board.now colour result }
+    ensures { Certifies board.now colour (other_of colour) result }
 {
     found.cert
 }

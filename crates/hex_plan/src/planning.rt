@@ -4,8 +4,8 @@ ghost use Rattle.std.specs.Prelude.{◌≡◌, ◌≤◌, ℕ, IfOk, None, true,
 ghost use Rattle.hex_board.specs.Joined.{winner_of};
 ghost use Rattle.hex_board.specs.Positions.{is_empty_at};
 ghost use Rattle.hsearch.specs.Closed.{IsReportOf};
-ghost use Rattle.hex_plan.specs.Plans.{AllowsEmpties, IsConnected, IsEdgeEntry, IsFree, IsPlanned};
-ghost use Rattle.hex_plan.specs.Plans.{IsLossOf, IsPlannedFor, unlooked};
+ghost use Rattle.hex_plan.specs.Plans.{AllowsEmpties, IsFree, IsLossOf, IsPlanned, unlooked};
+ghost use Rattle.hex_plan.specs.Resting.{IsConnected, IsEdgeEntry, RestsOn};
 ghost use Rattle.hex_plan.specs.Turns.{CanBeWritten};
 ghost use Rattle.hex_board.specs.Elements.{are_joined};
 ghost use Rattle.win_cert.specs.Cuts.{HasEdgeEntryAt};
@@ -43,6 +43,8 @@ use win_cert::cut;
 pub fn plan(alloc: Global, board: &Board, colour: Colour, means: Means) -> Result<Planned, Memory>
     requires nobody { winner_of board.now ≡ None }
     requires room { (k : ℕ) × (is_empty_at board.now k ≡ true) }
+    ensures rests { IfOk result
+        (λ planned. RestsOn board.now colour means.hsearch means.solve planned.plan) }
     ensures planned { IfOk result (IsPlanned board.now colour means) }
     ensures allowed { IfOk result (λ planned. AllowsEmpties board.now planned.plan) }
     ensures first { IfOk result (IsPlanned board.now colour (unlooked means)) }
@@ -51,6 +53,7 @@ pub fn plan(alloc: Global, board: &Board, colour: Colour, means: Means) -> Resul
     if !means.hsearch {
         return Ok(free_plan(alloc, board));
     }
+    board.keeps();
     let own = connect(alloc, board, colour)?;
     match edge_entry(&own) {
         Some(number) => win_plan(alloc, own, number),
@@ -70,7 +73,7 @@ fn unjoined_plan(
     requires nobody { winner_of board.now ≡ None }
     requires own { IsReportOf board.now colour own }
     requires unjoined { (a : Entry) → ¬ (IsEdgeEntry own a) }
-    ensures planned { IfOk result (IsPlannedFor board.now colour true solve 0) }
+    ensures rests { IfOk result (λ planned. RestsOn board.now colour true solve planned.plan) }
     ensures within { IfOk result (λ planned. planned.entered ≤ solve) }
     ensures loss { IfOk result (λ planned. IsLossOf board.now colour planned.plan planned.loss) }
 {
@@ -79,8 +82,6 @@ fn unjoined_plan(
         None => search_plan(alloc, board, colour, own, entered),
         Some(FoundPlan { plan, loss }) => Ok(Planned {
             plan,
-            own: Some(own),
-            other: None,
             loss,
             entered,
         }),
@@ -99,8 +100,6 @@ fn free_plan(alloc: Global, board: &Board) -> Planned
             allowed: empties_of(board),
             lost: false,
         },
-        own: None,
-        other: None,
         loss: None,
         entered: 0,
     }
@@ -110,7 +109,8 @@ fn free_plan(alloc: Global, board: &Board) -> Planned
 fn win_plan(alloc: Global, own: Report, number: u32) -> Result<Planned, Memory>
     requires apart { are_joined own.elements ≡ false }
     requires entry { HasEdgeEntryAt own number }
-    ensures connected { IfOk result (IsConnected own.elements.board own.elements.player) }
+    ensures connected { IfOk result
+        (λ planned. IsConnected own.elements.board own.elements.player planned.plan) }
     ensures none { IfOk result (λ planned. planned.entered ≡ 0) }
     ensures loss { IfOk result (λ planned. planned.loss ≡ None) }
 {
@@ -119,8 +119,6 @@ fn win_plan(alloc: Global, own: Report, number: u32) -> Result<Planned, Memory>
     own.keeps();
     Ok(Planned {
         plan: Plan::Win { cert, cell },
-        own: Some(own),
-        other: None,
         loss: None,
         entered: 0,
     })
@@ -138,7 +136,7 @@ fn search_plan(
     requires nobody { winner_of board.now ≡ None }
     requires own { IsReportOf board.now colour own }
     requires unjoined { (a : Entry) → ¬ (IsEdgeEntry own a) }
-    ensures connected { IfOk result (IsConnected board.now colour) }
+    ensures connected { IfOk result (λ planned. IsConnected board.now colour planned.plan) }
     ensures same { IfOk result (λ planned. planned.entered ≡ entered) }
     ensures loss { IfOk result (λ planned. IsLossOf board.now colour planned.plan planned.loss) }
 {
@@ -152,8 +150,6 @@ fn search_plan(
             allowed: region.allowed,
             lost: region.lost,
         },
-        own: Some(own),
-        other: Some(other),
         loss,
         entered,
     })

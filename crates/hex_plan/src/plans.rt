@@ -1,4 +1,4 @@
-//! Plans, with the reports that they rest on.
+//! What is planned.
 
 ghost use Rattle.std.specs.Prelude.{◌≡◌, ◌↔◌, IfSome, IsNone, IsTrue, option_map};
 ghost use Rattle.hex_plan.specs.Plans.{IsSearchAmong, IsWin};
@@ -6,17 +6,12 @@ ghost use Rattle.hex_plan.specs.Turns.{certificate_of};
 
 use super::types::Plan;
 use hex_cells::CellSet;
-use hsearch::Report;
 use win_cert::Cert;
 
-/// A plan, and the reports that it rests on: of a win the player's own one, of a search his and
-/// that of the other player, and none if no connections were looked for. With it stands how many
-/// positions the solver entered.
+/// A plan, with a certificate of a loss, and how many positions the solver entered for it.
 #[derive(Drop)]
 pub struct Planned {
     pub plan: Plan,
-    pub own: Option<Report>,
-    pub other: Option<Report>,
     /// Of a lost board a certificate that it is, if one was made: the other player wins whoever
     /// places first.
     pub loss: Option<Cert>,

@@ -2,7 +2,8 @@
 
 ghost use Rattle.std.specs.Prelude.{◌≡◌, ℕ, ◌↔◌, true};
 ghost use Rattle.hex_cells.specs.Sets.{has};
-ghost use Rattle.hex_plan.specs.Plans.{IsInEach, IsMustplay};
+ghost use Rattle.hex_plan.specs.Plans.{IsInEach};
+ghost use Rattle.hex_plan.specs.Resting.{IsMustplay};
 ghost use Rattle.tree_words.specs.Complete.{HasEmpties};
 
 use super::threats::Threat;

@@ -3,7 +3,8 @@
 ghost use Rattle.std.specs.Prelude.{◌≡◌, ◌≢◌, ◌≤◌, ◌∷◌, [], IfOk, IfSome, None};
 ghost use Rattle.hex_found.specs.Found.{IsFound};
 ghost use Rattle.hex_plan.specs.Planning.{IsFoundFor};
-ghost use Rattle.hex_plan.specs.Plans.{IsFoundPlan, IsLossOf, IsWin};
+ghost use Rattle.hex_plan.specs.Plans.{IsLossOf, IsWin};
+ghost use Rattle.hex_plan.specs.Resting.{IsFoundPlan};
 
 use super::refusals::Memory;
 use super::regions::empties_of;

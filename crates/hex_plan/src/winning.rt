@@ -6,7 +6,7 @@ ghost use Rattle.hex_board.specs.Elements.{are_joined};
 ghost use Rattle.conn_store.specs.Rules.{IsChain};
 ghost use Rattle.conn_store.specs.declared.entries.Entry.{Entry};
 ghost use Rattle.conn_store.specs.declared.entries.Kind.{Kind};
-ghost use Rattle.hex_plan.specs.Plans.{IsMiddle, IsWinningCell};
+ghost use Rattle.hex_plan.specs.Resting.{IsMiddle, IsWinningCell};
 ghost use Rattle.win_cert.specs.Cuts.{HasEdgeEntryAt, IsEdgeEntryAt};
 
 use conn_store::{Cause, Entry, Kind, Store};

@@ -56,8 +56,6 @@ fn one_playout(alloc: Global) -> Result<Turn, Fail> {
             allowed,
             lost: false,
         },
-        own: None,
-        other: None,
         loss: None,
         entered: 0,
     };

@@ -28,13 +28,13 @@ returns c =
     IfOk-weaker c.text_of.result _ _ (λ text e. inr (
       c.in-Ok.solved,
       sym (ap winner_of c.board-board.ensures) ∙ sym c.in_default.ensures.value,
-      solved_of_game c.args.options.now.hsearch c.args.options.now.budget c.args.game.now c.board-board.result.now
+      solved_of_game c.args.options.now.budget c.args.game.now c.board-board.result.now
           c.next_to_place-mover.result c.in-Ok.solved
           c.board-board.ensures (c.next_to_place-mover.ensures ∙ ap next_mover c.steps.ensures)
           (solved_by c.args.options.now.hsearch c.args.options.now.budget c.board-board.result.now
           c.next_to_place-mover.result c.in-Ok.solved
-          c.in-Ok.ensures.wins c.in-Ok.ensures.won c.in-Ok.ensures.short c.in-Ok.ensures.unknown
-          c.in-Ok.ensures.best c.in-Ok.ensures.too_long c.in-Ok.ensures.counted c.in-Ok.ensures.open),
+          c.in-Ok.ensures.wins c.in-Ok.ensures.won c.in-Ok.ensures.unknown
+          c.in-Ok.ensures.best c.in-Ok.ensures.too_long c.in-Ok.ensures.open),
       e ∙ ap (λ (n : ℕ). solved_text c.args.options.now.best n c.in-Ok.solved)
           (c.size.ensures.value ∙ ap (λ (p : Position). p.size) c.board-board.ensures),
     )) c.text_of.ensures

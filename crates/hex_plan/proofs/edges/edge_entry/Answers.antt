@@ -14,8 +14,10 @@ returns-clause-none c =
 
 pub returns-then-semi-gt0-clause-some : goal.returns-then-semi-gt0-clause-some
 returns-then-semi-gt0-clause-some c = first_there c.args.report.now Semi c.edge_numbers-semi.result
-    (subst (λ (d : StoreData). AreEdgeNumbers d Semi c.edge_numbers-semi.result) c.store-store.ensures.value c.edge_numbers-semi.ensures.numbers) (omega (arith, c.if-semi-gt0.true))
+    (subst (λ (d : StoreData). AreEdgeNumbers d Semi c.edge_numbers-semi.result) c.store-store.ensures.value
+    c.edge_numbers-semi.ensures.numbers) (omega (arith, c.if-semi-gt0.true))
 
 pub returns-then-full-gt0-clause-some : goal.returns-then-full-gt0-clause-some
 returns-then-full-gt0-clause-some c = first_there c.args.report.now Full c.edge_numbers-full.result
-    (subst (λ (d : StoreData). AreEdgeNumbers d Full c.edge_numbers-full.result) c.store-store.ensures.value c.edge_numbers-full.ensures.numbers) (omega (arith, c.if-full-gt0.true))
+    (subst (λ (d : StoreData). AreEdgeNumbers d Full c.edge_numbers-full.result) c.store-store.ensures.value
+    c.edge_numbers-full.ensures.numbers) (omega (arith, c.if-full-gt0.true))

@@ -4,7 +4,8 @@ use Rattle.hex_plan.proofs.look_texts.push_look_rows.Goals as goal
 
 pub rows-preserved : goal.rows-preserved
 rows-preserved c =
-    text_step (look_line c.args.size) c.args.rows.now c.rows.row-index c.row-item.result _ c.rows.text.items c.push_look_row.new.text.items c.rows-test.true c.row-item.is
+    text_step (look_line c.args.size) c.args.rows.now c.rows.row-index c.row-item.result _ c.rows.text.items
+    c.push_look_row.new.text.items c.rows-test.true c.row-item.is
     c.rows.invariant c.in_ok-push_look_row.ensures
 
 pub returns : goal.returns

@@ -11,7 +11,8 @@ pub cells-preserved : goal.cells-preserved
 cells-preserved c = record {
   text = numbers_more (spaced_vertex c.args.size)
       (has c.args.set) c.cells.k c.args.text.now.items c.cells.text.items c.push_member.new.text.items c.cells.invariant.text
-      (c.in_ok-push_member.ensures ∙ ap (λ k. c.cells.text.items ++ flat_map (spaced_vertex c.args.size) (filter (has c.args.set) (k ∷ []))) c.numbered.ensures);
+      (c.in_ok-push_member.ensures ∙ ap (λ k. c.cells.text.items ++ flat_map (spaced_vertex c.args.size)
+      (filter (has c.args.set) (k ∷ []))) c.numbered.ensures);
 }
 
 pub returns : goal.returns

@@ -4,8 +4,6 @@ use Rattle.hex_plan.proofs.planning.win_plan.Goals as goal
 pub returns-clause-connected : goal.returns-clause-connected
 returns-clause-connected c = (
   c.args.own,
-  refl,
-  refl,
   record {
     report = record { elements = refl; report = c.keeps.ensures.report };
     entry = c.requires.entry.0;

@@ -9,7 +9,8 @@ push_row-requires c
 
 pub loop-row-preserved : goal.loop-row-preserved
 loop-row-preserved c =
-    text_step (report_line c.args.size) c.args.rows.now c.loop-row.row-index c.row-item.result _ c.loop-row.text.items c.push_row.new.text.items c.loop-row-test.true c.row-item.is c.loop-row.invariant c.in_ok-push_row.ensures
+    text_step (report_line c.args.size) c.args.rows.now c.loop-row.row-index c.row-item.result _ c.loop-row.text.items
+    c.push_row.new.text.items c.loop-row-test.true c.row-item.is c.loop-row.invariant c.in_ok-push_row.ensures
 
 pub returns : goal.returns
 returns c = text_end
