@@ -8,7 +8,8 @@ use Rattle.hex_devices.specs.declared.stops.Stop.TheVariants.{TooLong, ArchiveFa
 
 end_numbered : ℕ → End
 end_numbered n
-    = if n == 0 then Done else if n == 1 then Rejected else if n == 2 then Usage else if n == 3 then Stopped ReadFault else if n == 4 then Stopped WriteFault else if n == 5 then Stopped Memory else if n == 6 then Stopped TooLong else Stopped ArchiveFault
+    = if n == 0 then Done else if n == 1 then Rejected else if n == 2 then Usage else if n == 3 then Stopped ReadFault
+    else if n == 4 then Stopped WriteFault else if n == 5 then Stopped Memory else if n == 6 then Stopped TooLong else Stopped ArchiveFault
 
 end_of_status : (end : End) → end_numbered (status_of end) ≡ end
 unfolding end_numbered

@@ -58,8 +58,12 @@ vain_as o n name f t = record { tries = []; tried = t.tried; came = tt }
 pub fetched_in_vain : (old new : Option Shelved) (name : List ℕ) (said : Option Fetched)
     (f : Fetched) → FetchesOne old new name said → said ≡ Some f
     → (tries : List Bool) × (length tries ≤ 1) × Loading old new nothing_left tries
-fetched_in_vain old new name said f h e =
-    (is_failed f ∷ [], omega arith, Both-weaker old new (λ o n. Tries o n name f) (λ o n. FetchesLoads o n [] (is_failed f ∷ [])) (λ o n. vain_as o n name f) (subst (FetchesOne old new name) e h))
+fetched_in_vain old new name said f h e = (
+  is_failed f ∷ [],
+  omega arith,
+  Both-weaker old new (λ o n. Tries o n name f)
+      (λ o n. FetchesLoads o n [] (is_failed f ∷ [])) (λ o n. vain_as o n name f) (subst (FetchesOne old new name) e h),
+)
 
 pub if_ok : {T E : Type 0} (r : Result T E) (P Q : T → Type 0) → ((x : T) → P x → Q x)
     → IfOk r P → IfOk r Q

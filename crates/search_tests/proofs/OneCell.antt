@@ -27,7 +27,8 @@ abbrev pub root_child : LinkedBlock
 root_child = told_block one_cell [] 4 8
 
 -- Black wins from the full board, and the cell holds his stone
-adds : (k : ℕ) → walk_adds one_cell (root_child ∷ []) k 12 ≡ record { word = 14; won = true } ∷ (record { word = 15; won = true } ∷ (record { word = 6; won = false } ∷ []))
+adds : (k : ℕ) → walk_adds one_cell (root_child ∷ []) k 12 ≡ record { word = 14; won = true }
+    ∷ (record { word = 15; won = true } ∷ (record { word = 6; won = false } ∷ []))
 unfolding walk_adds outcome_of playout_of filled order_of filled_by empties_of words_of shuffled is_joined leads_in allowed_cells has_cell
 adds k = refl
 
@@ -112,7 +113,119 @@ first-add k = record { number = k; ticket = refl; held = refl; next = (12, refl,
 
 pub all-fit : AllFit two_seats script
 unfolding allowed_cells has_cell drew known_after loads_after looked added_at noted with_word kept_part
-all-fit = (omega arith, (λ e. cc), (omega arith, (λ e. cc), (omega arith, (λ e. cc), (omega arith, (λ e. cc), (omega arith, (λ e. cc), (omega arith, (λ e. cc), (omega arith, (λ e. cc), (omega arith, (λ e. cc), (omega arith, (λ e. cc), (omega arith, (λ e. cc), (omega arith, (λ e. cc), (omega arith, (λ e. cc), (omega arith, (λ e. cc), (omega arith, (λ e. cc), (omega arith, (λ e. cc), (omega arith, (λ e. cc), (omega arith, (λ e. cc), (omega arith, (λ e. cc), (draw-fits _ refl refl refl refl, (λ e. cc), (draw-fits _ refl refl refl refl, (λ e. cc), (first-add 0, (λ e. cc), (first-add 1, (λ e. cc), (next-add _ one_cell (root_child ∷ []) 0 12 1 _ _ refl refl refl refl refl (adds 0) refl, (λ e. cc), (next-add _ one_cell (root_child ∷ []) 0 12 2 _ _ refl refl refl refl refl (adds 0) refl, (λ e. cc), (note-fits _ one_cell (root_child ∷ []) 0 12 24 _ refl refl refl refl (adds 0) (ap (record_word 12) (won 0)), (λ e. cc), (next-add _ one_cell (root_child ∷ []) 1 12 1 _ _ refl refl refl refl refl (adds 1) refl, (λ e. cc), (next-add _ one_cell (root_child ∷ []) 1 12 2 _ _ refl refl refl refl refl (adds 1) refl, (λ e. cc), (note-fits _ one_cell (root_child ∷ []) 1 12 24 _ refl refl refl refl (adds 1) (ap (record_word 12) (won 1)), (λ e. cc), (draw-fits _ refl refl refl refl, (λ e. cc), (draw-fits _ refl refl refl refl, (λ e. cc), tt))))))))))))))))))))))))))))))
+all-fit = (
+  omega arith,
+  (λ e. cc),
+  (
+    omega arith,
+    (λ e. cc),
+    (
+      omega arith,
+      (λ e. cc),
+      (
+        omega arith,
+        (λ e. cc),
+        (
+          omega arith,
+          (λ e. cc),
+          (
+            omega arith,
+            (λ e. cc),
+            (
+              omega arith,
+              (λ e. cc),
+              (
+                omega arith,
+                (λ e. cc),
+                (
+                  omega arith,
+                  (λ e. cc),
+                  (
+                    omega arith,
+                    (λ e. cc),
+                    (
+                      omega arith,
+                      (λ e. cc),
+                      (
+                        omega arith,
+                        (λ e. cc),
+                        (
+                          omega arith,
+                          (λ e. cc),
+                          (
+                            omega arith,
+                            (λ e. cc),
+                            (
+                              omega arith,
+                              (λ e. cc),
+                              (
+                                omega arith,
+                                (λ e. cc),
+                                (
+                                  omega arith,
+                                  (λ e. cc),
+                                  (
+                                    omega arith,
+                                    (λ e. cc),
+                                    (
+                                      draw-fits _ refl refl refl refl,
+                                      (λ e. cc),
+                                      (
+                                        draw-fits _ refl refl refl refl,
+                                        (λ e. cc),
+                                        (
+                                          first-add 0,
+                                          (λ e. cc),
+                                          (
+                                            first-add 1,
+                                            (λ e. cc),
+                                            (
+                                              next-add _ one_cell (root_child ∷ []) 0 12 1 _ _ refl refl refl refl refl (adds 0) refl,
+                                              (λ e. cc),
+                                              (
+                                                next-add _ one_cell (root_child ∷ []) 0 12 2 _ _ refl refl refl refl refl (adds 0) refl,
+                                                (λ e. cc),
+                                                (
+                                                  note-fits _ one_cell (root_child ∷ []) 0 12 24 _ refl refl refl refl (adds 0) (ap (record_word 12) (won 0)),
+                                                  (λ e. cc),
+                                                  (
+                                                    next-add _ one_cell (root_child ∷ []) 1 12 1 _ _ refl refl refl refl refl (adds 1) refl,
+                                                    (λ e. cc),
+                                                    (
+                                                      next-add _ one_cell (root_child ∷ []) 1 12 2 _ _ refl refl refl refl refl (adds 1) refl,
+                                                      (λ e. cc),
+                                                      (
+                                                        note-fits _ one_cell (root_child ∷ []) 1 12 24 _ refl refl refl refl (adds 1) (ap (record_word 12) (won 1)),
+                                                        (λ e. cc),
+                                                        (draw-fits _ refl refl refl refl, (λ e. cc), (draw-fits _ refl refl refl refl, (λ e. cc), tt)),
+                                                      ),
+                                                    ),
+                                                  ),
+                                                ),
+                                              ),
+                                            ),
+                                          ),
+                                        ),
+                                      ),
+                                    ),
+                                  ),
+                                ),
+                              ),
+                            ),
+                          ),
+                        ),
+                      ),
+                    ),
+                  ),
+                ),
+              ),
+            ),
+          ),
+        ),
+      ),
+    ),
+  ),
+)
 
 pub ended : HaveEnded (after_script two_seats script).first (after_script two_seats script).second
 unfolding allowed_cells has_cell drew known_after loads_after looked added_at noted with_word kept_part

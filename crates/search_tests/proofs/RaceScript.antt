@@ -97,23 +97,302 @@ script = looks ++ (walk ++ (first_writes ++ (second_writes ++ links)))
 
 looks-fit : AllFit (two_seats) looks
 unfolding allowed_cells has_cell empties_of set_of block_words drew known_after loads_after looked claimed_at wrote published added_at noted with_word kept_part
-looks-fit = (omega arith, (λ e. cc), (omega arith, (λ e. cc), (omega arith, (λ e. cc), (omega arith, (λ e. cc), (omega arith, (λ e. cc), (omega arith, (λ e. cc), (omega arith, (λ e. cc), (omega arith, (λ e. cc), (omega arith, (λ e. cc), (draw-fits _ refl refl refl refl, (λ e. cc), (omega arith, (λ e. cc), (omega arith, (λ e. cc), (omega arith, (λ e. cc), (omega arith, (λ e. cc), (omega arith, (λ e. cc), (omega arith, (λ e. cc), (omega arith, (λ e. cc), (omega arith, (λ e. cc), (omega arith, (λ e. cc), (omega arith, (λ e. cc), (omega arith, (λ e. cc), (omega arith, (λ e. cc), (omega arith, (λ e. cc), (omega arith, (λ e. cc), (omega arith, (λ e. cc), (omega arith, (λ e. cc), (omega arith, (λ e. cc), (omega arith, (λ e. cc), (omega arith, (λ e. cc), tt)))))))))))))))))))))))))))))
+looks-fit = (
+  omega arith,
+  (λ e. cc),
+  (
+    omega arith,
+    (λ e. cc),
+    (
+      omega arith,
+      (λ e. cc),
+      (
+        omega arith,
+        (λ e. cc),
+        (
+          omega arith,
+          (λ e. cc),
+          (
+            omega arith,
+            (λ e. cc),
+            (
+              omega arith,
+              (λ e. cc),
+              (
+                omega arith,
+                (λ e. cc),
+                (
+                  omega arith,
+                  (λ e. cc),
+                  (
+                    draw-fits _ refl refl refl refl,
+                    (λ e. cc),
+                    (
+                      omega arith,
+                      (λ e. cc),
+                      (
+                        omega arith,
+                        (λ e. cc),
+                        (
+                          omega arith,
+                          (λ e. cc),
+                          (
+                            omega arith,
+                            (λ e. cc),
+                            (
+                              omega arith,
+                              (λ e. cc),
+                              (
+                                omega arith,
+                                (λ e. cc),
+                                (
+                                  omega arith,
+                                  (λ e. cc),
+                                  (
+                                    omega arith,
+                                    (λ e. cc),
+                                    (
+                                      omega arith,
+                                      (λ e. cc),
+                                      (
+                                        omega arith,
+                                        (λ e. cc),
+                                        (
+                                          omega arith,
+                                          (λ e. cc),
+                                          (
+                                            omega arith,
+                                            (λ e. cc),
+                                            (
+                                              omega arith,
+                                              (λ e. cc),
+                                              (
+                                                omega arith,
+                                                (λ e. cc),
+                                                (omega arith, (λ e. cc), (omega arith, (λ e. cc), (omega arith, (λ e. cc), (omega arith, (λ e. cc), (omega arith, (λ e. cc), tt))))),
+                                              ),
+                                            ),
+                                          ),
+                                        ),
+                                      ),
+                                    ),
+                                  ),
+                                ),
+                              ),
+                            ),
+                          ),
+                        ),
+                      ),
+                    ),
+                  ),
+                ),
+              ),
+            ),
+          ),
+        ),
+      ),
+    ),
+  ),
+)
 
 walk-fit : FillsForWhite → AllFit (after_script (two_seats) looks) walk
 unfolding allowed_cells has_cell empties_of set_of block_words drew known_after loads_after looked claimed_at wrote published added_at noted with_word kept_part
-walk-fit ends = (first-add ends, (λ e. cc), (next-add _ two_by_two (root_child ∷ []) 0 14 1 _ _ refl refl refl refl refl (adds ends) refl, (λ e. cc), (next-add _ two_by_two (root_child ∷ []) 0 14 2 _ _ refl refl refl refl refl (adds ends) refl, (λ e. cc), (next-add _ two_by_two (root_child ∷ []) 0 14 3 _ _ refl refl refl refl refl (adds ends) refl, (λ e. cc), (note-fits _ two_by_two (root_child ∷ []) 0 14 29 _ refl refl refl refl (adds ends) (note-value ends), (λ e. cc), (draw-fits _ refl refl refl refl, (λ e. cc), (draw-fits _ refl refl refl refl, (λ e. cc), (omega arith, (λ e. cc), (omega arith, (λ e. cc), (claim-fits _ 1 refl refl refl refl refl refl refl, (λ e. cc), (claim-fits _ 2 refl refl refl refl refl refl refl, (λ e. cc), tt)))))))))))
+walk-fit ends = (
+  first-add ends,
+  (λ e. cc),
+  (
+    next-add _ two_by_two (root_child ∷ []) 0 14 1 _ _ refl refl refl refl refl
+        (adds ends) refl,
+    (λ e. cc),
+    (
+      next-add _ two_by_two (root_child ∷ []) 0 14 2 _ _ refl refl refl refl refl
+          (adds ends) refl,
+      (λ e. cc),
+      (
+        next-add _ two_by_two (root_child ∷ []) 0 14 3 _ _ refl refl refl refl refl
+            (adds ends) refl,
+        (λ e. cc),
+        (
+          note-fits _ two_by_two (root_child ∷ []) 0 14 29 _ refl refl refl refl (adds ends)
+              (note-value ends),
+          (λ e. cc),
+          (
+            draw-fits _ refl refl refl refl,
+            (λ e. cc),
+            (
+              draw-fits _ refl refl refl refl,
+              (λ e. cc),
+              (
+                omega arith,
+                (λ e. cc),
+                (
+                  omega arith,
+                  (λ e. cc),
+                  (
+                    claim-fits _ 1 refl refl refl refl refl refl refl,
+                    (λ e. cc),
+                    (claim-fits _ 2 refl refl refl refl refl refl refl, (λ e. cc), tt),
+                  ),
+                ),
+              ),
+            ),
+          ),
+        ),
+      ),
+    ),
+  ),
+)
 
 first-writes-fit : AllFit (after_script (after_script (two_seats) looks) walk) first_writes
 unfolding allowed_cells has_cell empties_of set_of block_words drew known_after loads_after looked claimed_at wrote published added_at noted with_word kept_part
-first-writes-fit = (write-fits _ _ _ refl (omega arith) refl, (λ e. cc), (write-fits _ _ _ refl (omega arith) refl, (λ e. cc), (write-fits _ _ _ refl (omega arith) refl, (λ e. cc), (write-fits _ _ _ refl (omega arith) refl, (λ e. cc), (write-fits _ _ _ refl (omega arith) refl, (λ e. cc), (write-fits _ _ _ refl (omega arith) refl, (λ e. cc), (write-fits _ _ _ refl (omega arith) refl, (λ e. cc), (write-fits _ _ _ refl (omega arith) refl, (λ e. cc), (write-fits _ _ _ refl (omega arith) refl, (λ e. cc), (write-fits _ _ _ refl (omega arith) refl, (λ e. cc), (write-fits _ _ _ refl (omega arith) refl, (λ e. cc), (write-fits _ _ _ refl (omega arith) refl, (λ e. cc), (write-fits _ _ _ refl (omega arith) refl, (λ e. cc), (write-fits _ _ _ refl (omega arith) refl, (λ e. cc), (write-fits _ _ _ refl (omega arith) refl, (λ e. cc), (write-fits _ _ _ refl (omega arith) refl, (λ e. cc), tt))))))))))))))))
+first-writes-fit = (
+  write-fits _ _ _ refl (omega arith) refl,
+  (λ e. cc),
+  (
+    write-fits _ _ _ refl (omega arith) refl,
+    (λ e. cc),
+    (
+      write-fits _ _ _ refl (omega arith) refl,
+      (λ e. cc),
+      (
+        write-fits _ _ _ refl (omega arith) refl,
+        (λ e. cc),
+        (
+          write-fits _ _ _ refl (omega arith) refl,
+          (λ e. cc),
+          (
+            write-fits _ _ _ refl (omega arith) refl,
+            (λ e. cc),
+            (
+              write-fits _ _ _ refl (omega arith) refl,
+              (λ e. cc),
+              (
+                write-fits _ _ _ refl (omega arith) refl,
+                (λ e. cc),
+                (
+                  write-fits _ _ _ refl (omega arith) refl,
+                  (λ e. cc),
+                  (
+                    write-fits _ _ _ refl (omega arith) refl,
+                    (λ e. cc),
+                    (
+                      write-fits _ _ _ refl (omega arith) refl,
+                      (λ e. cc),
+                      (
+                        write-fits _ _ _ refl (omega arith) refl,
+                        (λ e. cc),
+                        (
+                          write-fits _ _ _ refl (omega arith) refl,
+                          (λ e. cc),
+                          (
+                            write-fits _ _ _ refl (omega arith) refl,
+                            (λ e. cc),
+                            (write-fits _ _ _ refl (omega arith) refl, (λ e. cc), (write-fits _ _ _ refl (omega arith) refl, (λ e. cc), tt)),
+                          ),
+                        ),
+                      ),
+                    ),
+                  ),
+                ),
+              ),
+            ),
+          ),
+        ),
+      ),
+    ),
+  ),
+)
 
 second-writes-fit : AllFit (after_script (after_script (after_script (two_seats) looks) walk) first_writes) second_writes
 unfolding allowed_cells has_cell empties_of set_of block_words drew known_after loads_after looked claimed_at wrote published added_at noted with_word kept_part
-second-writes-fit = (write-fits _ _ _ refl (omega arith) refl, (λ e. cc), (write-fits _ _ _ refl (omega arith) refl, (λ e. cc), (write-fits _ _ _ refl (omega arith) refl, (λ e. cc), (write-fits _ _ _ refl (omega arith) refl, (λ e. cc), (write-fits _ _ _ refl (omega arith) refl, (λ e. cc), (write-fits _ _ _ refl (omega arith) refl, (λ e. cc), (write-fits _ _ _ refl (omega arith) refl, (λ e. cc), (write-fits _ _ _ refl (omega arith) refl, (λ e. cc), (write-fits _ _ _ refl (omega arith) refl, (λ e. cc), (write-fits _ _ _ refl (omega arith) refl, (λ e. cc), (write-fits _ _ _ refl (omega arith) refl, (λ e. cc), (write-fits _ _ _ refl (omega arith) refl, (λ e. cc), (write-fits _ _ _ refl (omega arith) refl, (λ e. cc), (write-fits _ _ _ refl (omega arith) refl, (λ e. cc), (write-fits _ _ _ refl (omega arith) refl, (λ e. cc), (write-fits _ _ _ refl (omega arith) refl, (λ e. cc), tt))))))))))))))))
+second-writes-fit = (
+  write-fits _ _ _ refl (omega arith) refl,
+  (λ e. cc),
+  (
+    write-fits _ _ _ refl (omega arith) refl,
+    (λ e. cc),
+    (
+      write-fits _ _ _ refl (omega arith) refl,
+      (λ e. cc),
+      (
+        write-fits _ _ _ refl (omega arith) refl,
+        (λ e. cc),
+        (
+          write-fits _ _ _ refl (omega arith) refl,
+          (λ e. cc),
+          (
+            write-fits _ _ _ refl (omega arith) refl,
+            (λ e. cc),
+            (
+              write-fits _ _ _ refl (omega arith) refl,
+              (λ e. cc),
+              (
+                write-fits _ _ _ refl (omega arith) refl,
+                (λ e. cc),
+                (
+                  write-fits _ _ _ refl (omega arith) refl,
+                  (λ e. cc),
+                  (
+                    write-fits _ _ _ refl (omega arith) refl,
+                    (λ e. cc),
+                    (
+                      write-fits _ _ _ refl (omega arith) refl,
+                      (λ e. cc),
+                      (
+                        write-fits _ _ _ refl (omega arith) refl,
+                        (λ e. cc),
+                        (
+                          write-fits _ _ _ refl (omega arith) refl,
+                          (λ e. cc),
+                          (
+                            write-fits _ _ _ refl (omega arith) refl,
+                            (λ e. cc),
+                            (write-fits _ _ _ refl (omega arith) refl, (λ e. cc), (write-fits _ _ _ refl (omega arith) refl, (λ e. cc), tt)),
+                          ),
+                        ),
+                      ),
+                    ),
+                  ),
+                ),
+              ),
+            ),
+          ),
+        ),
+      ),
+    ),
+  ),
+)
 
 links-fit : AllFit (after_script (after_script (after_script (after_script (two_seats) looks) walk) first_writes) second_writes) links
 unfolding allowed_cells has_cell empties_of set_of block_words drew known_after loads_after looked claimed_at wrote published added_at noted with_word kept_part
-links-fit = (record { block = record { start = 30; size = 16; written = written }; held = refl; start = refl; node = 14; link = refl; above = omega arith; may = may-get _ refl refl refl; written = refl }, (λ e. cc), (record { block = record { start = 46; size = 16; written = written }; held = refl; start = refl; node = 14; link = refl; above = omega arith; may = may-get _ refl refl refl; written = refl }, (λ e. cc), (omega arith, (λ e. cc), (omega arith, (λ e. cc), (omega arith, (λ e. cc), tt)))))
+links-fit = (
+  record {
+    block = record { start = 30; size = 16; written = written };
+    held = refl;
+    start = refl;
+    node = 14;
+    link = refl;
+    above = omega arith;
+    may = may-get _ refl refl refl;
+    written = refl;
+  },
+  (λ e. cc),
+  (
+    record {
+      block = record { start = 46; size = 16; written = written };
+      held = refl;
+      start = refl;
+      node = 14;
+      link
+          = refl;
+      above = omega arith;
+      may = may-get _ refl refl refl;
+      written = refl;
+    },
+    (λ e. cc),
+    (omega arith, (λ e. cc), (omega arith, (λ e. cc), (omega arith, (λ e. cc), tt))),
+  ),
+)
 
 -- each step of the script fits
 pub all-fit : FillsForWhite → AllFit two_seats script

@@ -24,7 +24,8 @@ write-fits v b i h l n = record { block = b; held = h; left = l; next = n }
 
 -- the walk of playout k to a leaf, over these known blocks
 module _ (v : SeatView) (s : Setting) (known : List LinkedBlock) (k leaf : ℕ) where
-  pub next-add : (n : ℕ) (a : CountAdd) (adds : List CountAdd) → v.shape ≡ s → v.known ≡ known → v.ticket ≡ Some k → v.held ≡ None → v.adds ≡ Some (record { leaf = leaf; made = n })
+  pub next-add : (n : ℕ) (a : CountAdd) (adds : List CountAdd) → v.shape ≡ s → v.known ≡ known → v.ticket ≡ Some k
+      → v.held ≡ None → v.adds ≡ Some (record { leaf = leaf; made = n })
       → walk_adds s known k leaf ≡ adds → slice_get adds n ≡ Some a → FitsAdd v a
   next-add n a adds shape blocks t h f e is = record {
     number = k;
@@ -33,7 +34,8 @@ module _ (v : SeatView) (s : Setting) (known : List LinkedBlock) (k leaf : ℕ) 
     next = subst (λ (o : Option Flight). IsNext v k o a) (sym f) ((λ i. slice_get (walk_adds (shape i) (blocks i) k leaf) n) ∙ (λ i. slice_get (e i) n) ∙ is);
   }
 
-  pub note-fits : (value : ℕ) (adds : List CountAdd) → v.shape ≡ s → v.known ≡ known → v.ticket ≡ Some k → v.adds ≡ Some (record { leaf = leaf; made = length adds })
+  pub note-fits : (value : ℕ) (adds : List CountAdd) → v.shape ≡ s → v.known ≡ known → v.ticket ≡ Some k → v.adds ≡ Some
+      (record { leaf = leaf; made = length adds })
       → walk_adds s known k leaf ≡ adds → record_word leaf (outcome_of s k (node_state s known leaf)).winner ≡ value → FitsNote v k value
   note-fits value adds shape blocks t f e is = record {
     ticket = t;

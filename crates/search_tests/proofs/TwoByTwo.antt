@@ -26,7 +26,8 @@ abbrev pub root_child : LinkedBlock
 root_child = told_block two_by_two [] 6 10
 
 -- the outcome of playout 0 from a1
-outcome : FillsForWhite → outcome_of two_by_two 0 (node_state two_by_two (root_child ∷ []) 14) ≡ record { winner = White; full = record { size = 2; black = 9; white = 6 } }
+outcome : FillsForWhite → outcome_of two_by_two 0 (node_state two_by_two (root_child ∷ []) 14) ≡ record
+    { winner = White; full = record { size = 2; black = 9; white = 6 } }
 unfolding outcome_of allowed_cells has_cell
 outcome f = λ i. record { winner = f.1 i; full = f.0 i }
 
@@ -53,7 +54,9 @@ only-node : (y : ℕ) → has_node root_child y ≡ true → is_on two_by_two (r
 unfolding allowed_cells has_cell
 only-node y h on =
     let q = has-at root_child y h in
-    ⊎_elim (λ (t : (14 == y) ≡ true). sym (eqb-true 14 y t)) (λ t. ⊎_elim (λ (u : (6 == y) ≡ true). absurd (omega (arith, eqb-true 6 y u, q.2))) (λ (u : false ≡ true). absurd (no u)) (or_cases (6 == y) false t)) (or_cases (14 == y) _ on)
+    ⊎_elim (λ (t : (14 == y) ≡ true). sym (eqb-true 14 y t))
+    (λ t. ⊎_elim (λ (u : (6 == y) ≡ true). absurd (omega (arith, eqb-true 6 y u, q.2)))
+    (λ (u : false ≡ true). absurd (no u)) (or_cases (6 == y) false t)) (or_cases (14 == y) _ on)
   where
     no : false ≡ true → ⊥
     no e = cc
@@ -109,5 +112,6 @@ may-get v s b l =
       fits = omega (arith, many);
     }
 
-pub claim-fits : (v : SeatView) (k : ℕ) → v.shape ≡ two_by_two → v.known ≡ root_child ∷ [] → load_of v.loads 16 ≡ Some 4294967296 → v.ticket ≡ Some k → v.adds ≡ None → v.held ≡ None → v.full ≡ false → FitsClaim v 16
+pub claim-fits : (v : SeatView) (k : ℕ) → v.shape ≡ two_by_two → v.known ≡ root_child ∷ [] → load_of v.loads 16 ≡ Some
+    4294967296 → v.ticket ≡ Some k → v.adds ≡ None → v.held ≡ None → v.full ≡ false → FitsClaim v 16
 claim-fits v k s b l t a h f = record { number = k; ticket = t; adds = a; held = h; room = f; node = 14; may = may-get v s b l }

@@ -80,7 +80,11 @@ module _ (s : Setting) (bs : List LinkedBlock) (words : List ℕ) (k : ℕ) (h :
     same =
         let p : NodeState = site_state site in
         let all : o ≡ outcome_of s k p
-        = λ q. record { full = (full ∙ (λ z. filled site.board site.player (seeds z) (numbers z))) q; winner = (winner ∙ (λ z. playout_of site.board site.player (seeds z) (numbers z))) q } in
+        = λ q. record {
+          full = (full ∙ (λ z. filled site.board site.player (seeds z) (numbers z))) q;
+          winner
+              = (winner ∙ (λ z. playout_of site.board site.player (seeds z) (numbers z))) q;
+        } in
         all ∙ ap (outcome_of s k) (state ∙ ap (node_state s bs) (sym is_leaf))
 
     pub wrong_record : (o.winner ≡ winner_in (record_in words k) → ⊥) → IsRecord s bs words k → ⊥
@@ -88,7 +92,12 @@ module _ (s : Setting) (bs : List LinkedBlock) (words : List ℕ) (k : ℕ) (h :
 
     pub right_record : o.winner ≡ winner_in (record_in words k) → IsRecord s bs words k
     right_record e
-        = record { node = ap (is_node (root_at s) bs) is_leaf ∙ node; below = λ z. below (sym is_leaf ∙ z); result = sym e ∙ ap (λ (p : Ending). p.winner) same }
+        = record {
+          node = ap (is_node (root_at s) bs) is_leaf ∙ node;
+          below = λ z. below (sym is_leaf ∙ z);
+          result = sym
+              e ∙ ap (λ (p : Ending). p.winner) same;
+        }
 
     pub playout_added : (sums after : List ℕ) (p : Colour) → AreOwn s bs words sums k
         → k < s.knobs.playouts → p ≡ other_of site.player → IsFullBoard site.board.size o.full
@@ -98,6 +107,7 @@ module _ (s : Setting) (bs : List LinkedBlock) (words : List ℕ) (k : ℕ) (h :
         let size : site.board.size ≡ s.board.size = ap (λ (q : NodeState). q.board.size) state
         ∙ spot-size s bs leaf in
         own_added s words bs h lk sums k a number b i leaf n is_leaf after
-        (subst (λ (q : Ending). GainsLeaf words b.start leaf (amount_of (is_same q.winner (chooser s bs b))) (stones_of q.full (chooser s bs b)) sums after) same
+        (subst (λ (q : Ending). GainsLeaf words b.start leaf (amount_of (is_same q.winner (chooser s bs b)))
+        (stones_of q.full (chooser s bs b)) sums after) same
         (subst (λ (q : Colour). GainsLeaf words b.start leaf (amount_of (is_same o.winner q)) (stones_of o.full q) sums after) (chooser_is p turn) g))
         (subst (λ (q : Ending). IsFullBoard s.board.size q.full) same (subst (λ (m : ℕ). IsFullBoard m o.full) size filled-up))

@@ -25,11 +25,28 @@ module _ (s : Setting) (m : ℕ) (words : List ℕ) (long : length words ≡ end
   fails_ahead Record f
       = (f.0, linked_ahead s m words long less enough f.0 f.1, λ k. f.2 (recorded_to s s.knobs.words m whole words (behind s m words long less enough) f.0 k))
   fails_ahead BadCount f
-      = (f.0, linked_ahead s m words long less enough f.0 f.1, recorded_ahead s m words long less enough f.0 f.2, λ k. f.3 (exact_to s s.knobs.words m whole words (behind s m words long less enough) f.0 k))
-  fails_ahead End f =
-      (f.0, linked_ahead s m words long less enough f.0 f.1, recorded_ahead s m words long less enough f.0 f.2, exact_ahead s m words long less enough f.0 f.3, λ k. f.4 (keeps_behind s m words long less enough k))
-  fails_ahead Growth f =
-      (f.0, linked_ahead s m words long less enough f.0 f.1, recorded_ahead s m words long less enough f.0 f.2, exact_ahead s m words long less enough f.0 f.3, keeps_ahead s m words long less enough f.4, λ k. f.5 (grown_behind s m words long less enough f.0 k))
+      = (
+        f.0,
+        linked_ahead s m words long less enough f.0 f.1,
+        recorded_ahead s m words long less enough f.0 f.2,
+        λ k.
+            f.3 (exact_to s s.knobs.words m whole words (behind s m words long less enough) f.0 k),
+      )
+  fails_ahead End f = (
+    f.0,
+    linked_ahead s m words long less enough f.0 f.1,
+    recorded_ahead s m words long less enough f.0 f.2,
+    exact_ahead s m words long less enough f.0 f.3,
+    λ k. f.4 (keeps_behind s m words long less enough k),
+  )
+  fails_ahead Growth f = (
+    f.0,
+    linked_ahead s m words long less enough f.0 f.1,
+    recorded_ahead s m words long less enough f.0 f.2,
+    exact_ahead s m words long less enough f.0 f.3,
+    keeps_ahead s m words long less enough f.4,
+    λ k. f.5 (grown_behind s m words long less enough f.0 k),
+  )
 
 pub cut_fails : (s c : Setting) (words : List ℕ) → IsCut s words c → (why : Flaw)
     → FailsFirst c words why → FailsFirst s (all_words s words) why

@@ -53,4 +53,5 @@ module _ (bytes words : List ℕ) (s c : Setting) (q : ℕ) (f : IsHeader bytes 
       (λ i l. answers i ∙ z i l) (count ∙ e) in
       let cut : IsCut s words c
       = record { area = area; long = long; less = less; enough = omega (arith, e, enough) } in
-      subst (λ (ws : List ℕ). IsReadTree (record { shape = s; words = all_words s ws }) × (bytes ≡ trace_text (record { shape = s; words = all_words s ws }) ++ drop (128 + 8 * q) bytes) × IsCut s ws c) (sym same) (t.0, t.1, cut)
+      subst (λ (ws : List ℕ). IsReadTree (record { shape = s; words = all_words s ws })
+      × (bytes ≡ trace_text (record { shape = s; words = all_words s ws }) ++ drop (128 + 8 * q) bytes) × IsCut s ws c) (sym same) (t.0, t.1, cut)

@@ -60,8 +60,11 @@ module _ (s : Setting) (words : List ℕ) (t : Table) (done at end : ℕ) (b : L
       × (x ≡ b.start + 4 + 4 * k)
   node_is k x h l =
       let ends = e.ends in
-      let start = e.start in
-      (move_is s words (next_in words) (b ∷ bs) b k e.setting e.scanned.order e.scanned.complete (inl refl) (e.scanned.shown b (inl refl)) (omega (arith, h, l, ends)), omega (arith, h, start))
+      let start = e.start in (
+        move_is s words (next_in words) (b ∷ bs) b k e.setting e.scanned.order e.scanned.complete (inl refl)
+            (e.scanned.shown b (inl refl)) (omega (arith, h, l, ends)),
+        omega (arith, h, start),
+      )
 
   pub node_in : (k x : ℕ) → x ≡ at + 4 + 4 * k → x < end → is_node (root_at s) (b ∷ bs) x ≡ true
   node_in k x h l = let m = node_is k x h l in in-node (root_at s) (b ∷ bs) b x (inl refl)

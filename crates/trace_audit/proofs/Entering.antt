@@ -113,7 +113,13 @@ module _ (s : Setting) (words : List ℕ) (t u : Table) (x p : ℕ) (bs : List L
         (λ (k : x ≤ y).
         let at : x ≡ y = omega (arith, k, l) in
         let here : IsFollowed words u p bs x
-        = inr (sc.vacant x n (omega arith), omega (arith, link, free), omega (arith, ap (slice_index u.index) link, new_index), ap (slice_index words) link ∙ parent) in
+        = inr (
+          sc.vacant x n (omega arith),
+          omega (arith, link, free),
+          omega
+              (arith, ap (slice_index u.index) link, new_index),
+          ap (slice_index words) link ∙ parent,
+        ) in
         subst (IsFollowed words u p bs) at here)
         (cases_lt y x);
     vacant = λ y m l. sc.vacant y m (omega (arith, l));

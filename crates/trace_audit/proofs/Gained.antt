@@ -142,7 +142,8 @@ module _ (s : Setting) (words : List ℕ) (bs : List LinkedBlock) (h : IsSetting
         let same : y ≡ node_at b.start k = nodes-apart r bs y (node_at b.start k) 3 3 lk.order node
         (in-node r bs b (node_at b.start k) i (own_node b k i l)) (omega arith)
         (omega arith) q in
-        e (ap (λ (c : LinkedBlock). c.start) (covers-one r bs d b (y + 0) lk.order j i (has-covers d y 0 m (omega arith)) (has-covers b y 0 (ap (has_node b) same ∙ own_node b k i l) (omega arith)))))
+        e (ap (λ (c : LinkedBlock). c.start) (covers-one r bs d b (y + 0) lk.order j i
+        (has-covers d y 0 m (omega arith)) (has-covers b y 0 (ap (has_node b) same ∙ own_node b k i l) (omega arith)))))
 
     -- the counts of the sums, if the amount is a count's word and so is each gift
     module _ (c d : Counts) (a : Count) (gifts : ℕ → Count) (is : amount ≡ word_of a)
@@ -158,7 +159,8 @@ module _ (s : Setting) (words : List ℕ) (bs : List LinkedBlock) (h : IsSetting
       counts_gained v = record {
         long = g.long ∙ v.long;
         root = ap count_in
-            (gained_tally r (root_node r bs) (λ e. let low = parent_low r bs b lk.order i in let at = has-at b x n in omega (arith, e, low.1, at.2))) ∙ v.root ∙ sym root_same;
+            (gained_tally r (root_node r bs) (λ e. let low = parent_low r bs b lk.order i in let at = has-at b x n
+            in omega (arith, e, low.1, at.2))) ∙ v.root ∙ sym root_same;
         total = λ e j. ⊎_elim
             (λ (q : e.start ≡ b.start).
             let one : e ≡ b = one_start s bs lk.order e b j i q in

@@ -30,7 +30,8 @@ use Rattle.trace_audit.proofs.Sums.{tally_same}
 pub standing_same : (s : Setting) (bs : List LinkedBlock) (words sums : List ℕ)
     (f g : ℕ → ℕ → ℕ) (n : ℕ)
     → ((k : ℕ) → k < n → is_node (root_at s) bs (leaf_of words k) ≡ true → g (root_at s) (leaf_of words k) ≡ f (root_at s) (leaf_of words k))
-    → ((b : LinkedBlock) → In b bs → (k : ℕ) → k < n → is_node (root_at s) bs (leaf_of words k) ≡ true → g b.start (leaf_of words k) ≡ f b.start (leaf_of words k))
+    → ((b : LinkedBlock) → In b bs → (k : ℕ) → k < n → is_node (root_at s) bs (leaf_of words k) ≡ true → g b.start
+    (leaf_of words k) ≡ f b.start (leaf_of words k))
     → AreStanding s bs words sums f n → AreStanding s bs words sums g n
 standing_same s bs words sums f g n root blocks a = record {
   counts = record {
@@ -61,8 +62,11 @@ module _ (s : Setting) (words : List ℕ) (bs : List LinkedBlock) (h : IsSetting
   -- no block has handed up its sums
   pub handed_none : AreOwn s bs words sums s.knobs.playouts → AreHanded s bs words sums (end_of s)
   handed_none a = standing_same s bs words sums _ _ s.knobs.playouts
-      (λ k l n. ap (λ (e : ℕ). stand s bs e (leaf_of words k)) (level_low s bs lk.order (end_of s) r (root_below r refl)) ∙ stand_low s bs lk.order (end_of s) (leaf_of words k) n (node_low (leaf_of words k) n))
-      (λ b i k l n. ap (λ (e : ℕ). stand s bs e (leaf_of words k)) (level_low s bs lk.order (end_of s) b.start (let at = lies s words bs h lk b i in omega (arith, at.1))) ∙ stand_low s bs lk.order (end_of s) (leaf_of words k) n (node_low (leaf_of words k) n))
+      (λ k l n. ap (λ (e : ℕ). stand s bs e (leaf_of words k))
+      (level_low s bs lk.order (end_of s) r (root_below r refl)) ∙ stand_low s bs lk.order (end_of s) (leaf_of words k) n (node_low (leaf_of words k) n))
+      (λ b i k l n. ap (λ (e : ℕ). stand s bs e (leaf_of words k))
+      (level_low s bs lk.order (end_of s) b.start (let at = lies s words bs h lk b i in omega (arith, at.1)))
+      ∙ stand_low s bs lk.order (end_of s) (leaf_of words k) n (node_low (leaf_of words k) n))
       a
     where
       root_below : (z : ℕ) → z ≡ r → z < end_of s
@@ -125,7 +129,9 @@ module _ (s : Setting) (words : List ℕ) (bs : List LinkedBlock) (h : IsSetting
     all_handed = record {
       long = a.counts.long;
       tallies = λ x n. ⊎_elim
-          (λ (q : x ≡ r). ap (tally_in sums) q ∙ a.counts.root ∙ tally_same s bs words s.knobs.playouts _ (λ k. list_any (λ z. z == r) (path_of s bs (leaf_of words k))) _ (mover_of s bs r) root_told refl ∙ ap (visits_at s bs words s.knobs.playouts) (sym q))
+          (λ (q : x ≡ r). ap (tally_in sums) q ∙ a.counts.root ∙ tally_same s bs words s.knobs.playouts _
+          (λ k. list_any (λ z. z == r) (path_of s bs (leaf_of words k))) _ (mover_of s bs r) root_told refl ∙ ap
+          (visits_at s bs words s.knobs.playouts) (sym q))
           (λ (q : (b : LinkedBlock) × In b bs × (has_node b x ≡ true)).
           a.counts.tally q.0 x q.1 q.2
           ∙ tally_same s bs words s.knobs.playouts _
@@ -136,6 +142,7 @@ module _ (s : Setting) (words : List ℕ) (bs : List LinkedBlock) (h : IsSetting
       seen = λ b y i n.
           a.counts.seen b y i n
           ∙ tally_same s bs words s.knobs.playouts _ (is_seen s bs words b y) _ (mover_of s bs y)
-          (λ k l j. told b i (has_node b) (λ z t. t) k l j && has_cell (stones_of (outcome_in s bs words k).full (mover_is b y i n j)) (cell_at b (place b y))) (mover_is b y i n);
+          (λ k l j. told b i (has_node b) (λ z t. t) k l j && has_cell
+          (stones_of (outcome_in s bs words k).full (mover_is b y i n j)) (cell_at b (place b y))) (mover_is b y i n);
       leaves = a.leaves;
     }

@@ -165,7 +165,8 @@ module _ (s : Setting) (words : List ℕ) (bs : List LinkedBlock) (h : IsSetting
       (λ (l : b < d.start). tally_same s bs words n _ _ p p
       (λ k m. ap (λ (e : ℕ). test (stand s bs e (leaf_of words k)) k) (level_after b l) ∙ same (λ z. test z k) (out l k) (top l k) k m
       ∙ ap (λ (e : ℕ). test (stand s bs e (leaf_of words k)) k) (sym (level_before b l))) refl)
-      (λ (l : d.start ≤ b). tally_same s bs words n _ _ p p (λ k m. ap (λ (e : ℕ). test (stand s bs e (leaf_of words k)) k) (level_same b (omega (arith, l)))) refl)
+      (λ (l : d.start ≤ b). tally_same s bs words n _ _ p p
+      (λ k m. ap (λ (e : ℕ). test (stand s bs e (leaf_of words k)) k) (level_same b (omega (arith, l)))) refl)
       (cases_lt b d.start)
 
   -- and grows by the block's
@@ -229,7 +230,8 @@ module _ (s : Setting) (words : List ℕ) (bs : List LinkedBlock) (h : IsSetting
       → (standing s bs words after n).seen b y ≡ (standing s bs words before n).seen b y
   seen_stays b y j f = stays b.start (λ z k. has_node b z && has_stone s bs words b y k)
       (chooser s bs b)
-      (λ l k z q. ap (λ (t : Bool). t && has_stone s bs words b y k) (outside b j (λ e. omega (arith, e, l)) z q)) (λ l k. ap (λ (t : Bool). t && has_stone s bs words b y k) f)
+      (λ l k z q. ap (λ (t : Bool). t && has_stone s bs words b y k) (outside b j (λ e. omega (arith, e, l)) z q))
+      (λ l k. ap (λ (t : Bool). t && has_stone s bs words b y k) f)
 
   -- if the parent is the root
   module _ (top : x ≡ r) where
@@ -271,12 +273,14 @@ module _ (s : Setting) (words : List ℕ) (bs : List LinkedBlock) (h : IsSetting
                 (amount (mover_of s bs r)) _ c.root root_grows
                 (tally_small s bs words n _ _ few);
             total = λ b j. ap count_in
-                (get_or-set_other sums (r + 2) b.start v 0 (λ e. let l = parent_low r bs b lk.order j in omega (arith, e, l.1))) ∙ c.total b j ∙ sym (total_stays b j (no b j));
+                (get_or-set_other sums (r + 2) b.start v 0
+                (λ e. let l = parent_low r bs b lk.order j in omega (arith, e, l.1))) ∙ c.total b j ∙ sym (total_stays b j (no b j));
             tally = λ b z j m. ap count_in
                 (get_or-set_other sums (r + 2) (z + 2) v 0 (λ e. let l = not-root b z j m in omega (arith, e, l))) ∙ c.tally b z j m
                 ∙ sym (tally_stays b z j m (λ e. let l = not-root b z j m in omega (arith, e, top, l)));
             seen = λ b y j m. ap count_in
-                (get_or-set_other sums (r + 2) (y + 3) v 0 (λ e. let l = not-root b y j m in omega (arith, e, l))) ∙ c.seen b y j m ∙ sym (seen_stays b y j (no b j));
+                (get_or-set_other sums (r + 2) (y + 3) v 0 (λ e. let l = not-root b y j m in omega (arith, e, l)))
+                ∙ c.seen b y j m ∙ sym (seen_stays b y j (no b j));
           };
           leaves = λ z m. get_or-set_other sums (r + 2) z v 0 (λ e. ⊎_elim
               (λ (q : z ≡ r). omega (arith, q, e))
@@ -383,12 +387,14 @@ module _ (s : Setting) (words : List ℕ) (bs : List LinkedBlock) (h : IsSetting
           let rest : Count = tally_of s bs words n (λ k. below k && has_stone s bs words d z k) p in
           let word : v ≡ word_of rest = is ∙ tally_turned s bs words n (slice_index sums (z + 3))
           (λ k. below k && has_stone s bs words d z k) (chooser s bs d) p player
-          (a.counts.seen d z i node ∙ ap (λ (l : ℕ). tally_of s bs words n (λ k. has_node d (stand s bs l (leaf_of words k)) && has_stone s bs words d z k) (chooser s bs d)) level_own) in
+          (a.counts.seen d z i node ∙ ap (λ (l : ℕ). tally_of s bs words n
+          (λ k. has_node d (stand s bs l (leaf_of words k)) && has_stone s bs words d z k) (chooser s bs d)) level_own) in
           let split : amount p ≡ plus (gift y) rest
           = tally_sum s bs words n (λ k. below k && has_stone s bs words b y k)
           (λ k. below k && has_stone s bs words d z k) below p
           (λ k m. either (below k) (has_stone s bs words b y k) (has_stone s bs words d z k)
-          ((λ f. has_cell (stones_of (outcome_in s bs words k).full (player_is f)) (cell f)) ∙ other_stone (outcome_in s bs words k).full p (cell_at b (place b y)) (a.filled k m (cell_at b (place b y)) on))) in
+          ((λ f. has_cell (stones_of (outcome_in s bs words k).full (player_is f)) (cell f)) ∙ other_stone
+          (outcome_in s bs words k).full p (cell_at b (place b y)) (a.filled k m (cell_at b (place b y)) on))) in
           let visits : (amount p).visits ≡ (gift y).visits + rest.visits
           = ap (λ (w : Count). w.visits) split in
           let wins : (amount p).wins ≡ (gift y).wins + rest.wins
@@ -442,7 +448,8 @@ module _ (s : Setting) (words : List ℕ) (bs : List LinkedBlock) (h : IsSetting
           (empty_on (node_board s bs b.parent) c empty) in
           let small : c < 121 = omega (arith, ap (cell_at b) number, mv.3.small) in
           ⊎_elim
-          (λ (f : (k : ℕ) × (k < nodes_in words d.start) × (cell_of_node words d.start k ≡ c) × (slice_index unseen c ≡ turned_word (slice_index sums (node_at d.start k + 3)))). seen_below y f.0 q f.1 f.2 on (slice_index unseen c) f.3)
+          (λ (f : (k : ℕ) × (k < nodes_in words d.start) × (cell_of_node words d.start k ≡ c)
+          × (slice_index unseen c ≡ turned_word (slice_index sums (node_at d.start k + 3)))). seen_below y f.0 q f.1 f.2 on (slice_index unseen c) f.3)
           (λ (f : ((k : ℕ) → k < nodes_in words d.start → cell_of_node words d.start k ≡ c → ⊥) × (slice_index unseen c ≡ 0)).
           let cell : c ≡ cell_at b (place b x) = is_parents y q f.0 in
           let always : gift y ≡ amount p
@@ -483,7 +490,8 @@ module _ (s : Setting) (words : List ℕ) (bs : List LinkedBlock) (h : IsSetting
                 (amount p) gift block_amount
                 (λ y q. (gift_is y q).1) total_grows tally_grows (λ y q. seen_grows y)
                 (tally_small s bs words n _ _ few, tally_small s bs words n _ _ few, λ y. tally_small s bs words n _ _ few)
-                (stays r (λ z k. z == r) (mover_of s bs r) (λ l k. root_out) (λ l k. ne_eqb x r (λ f. let at = has-at b x m in let l = parent_low r bs b lk.order j in omega (arith, f, at.2, l.1))))
+                (stays r (λ z k. z == r) (mover_of s bs r) (λ l k. root_out)
+                (λ l k. ne_eqb x r (λ f. let at = has-at b x m in let l = parent_low r bs b lk.order j in omega (arith, f, at.2, l.1))))
                 (λ e q f. total_stays e q (other e q f))
                 (λ e z q t f. tally_stays e z q t f)
                 (λ e y q t f. seen_stays e y q (other e q f))

@@ -71,12 +71,14 @@ module _ (s : Setting) (words : List ℕ) (bs : List LinkedBlock) (h : IsSetting
       let other : (z j : ℕ) → is_node r bs z ≡ true → j < 4 → 0 < j
       → slice_index (set sums leaf v) (z + j) ≡ slice_index sums (z + j)
       = λ z j m l p. get_or-set_other sums leaf (z + j) v 0
-      (λ e. let none : leaf ≡ leaf + 0 = omega arith in let q = nodes-apart r bs z leaf j 0 lk.order m n l (omega arith) (e ∙ none) in omega (arith, q, e, p)) in
+      (λ e. let none : leaf ≡ leaf + 0 = omega arith in let q = nodes-apart r bs z leaf j 0 lk.order m n l (omega arith)
+      (e ∙ none) in omega (arith, q, e, p)) in
       record {
         long = length-set sums leaf v ∙ a.long;
         root = ap count_in (other r 2 (root_node r bs) (omega arith) (omega arith)) ∙ a.root;
         total = λ b i. ap count_in
-            (get_or-set_other sums leaf b.start v 0 (λ e. let none : leaf ≡ leaf + 0 = omega arith in head_apart s words bs h lk b leaf 0 i n (omega arith) (e ∙ none))) ∙ a.total b i;
+            (get_or-set_other sums leaf b.start v 0
+            (λ e. let none : leaf ≡ leaf + 0 = omega arith in head_apart s words bs h lk b leaf 0 i n (omega arith) (e ∙ none))) ∙ a.total b i;
         tally = λ b x i m. ap count_in
             (other x 2 (in-node r bs b x i m) (omega arith) (omega arith)) ∙ a.tally b x i m;
         seen = λ b y i m. ap count_in (other y 3 (in-node r bs b y i m) (omega arith) (omega arith))
@@ -169,12 +171,15 @@ module _ (s : Setting) (words : List ℕ) (bs : List LinkedBlock) (h : IsSetting
                 (some (λ j. has_node b (leaf_of words j)) p here)
                 (some (λ j. leaf_of words j == leaf) p (eq-eqb (leaf_of words k) leaf is_leaf))
                 (λ y m. tally_next s bs words k (λ j. has_node b (leaf_of words j) && has_stone s bs words b y j) p
-                ∙ ap (λ (u : Bool). plus (tally_of s bs words k (λ j. has_node b (leaf_of words j) && has_stone s bs words b y j) p) (cond u (one t) nothing)) (and_true (has_node b (leaf_of words k)) (has_stone s bs words b y k) here))
+                ∙ ap (λ (u : Bool). plus (tally_of s bs words k
+                (λ j. has_node b (leaf_of words j) && has_stone s bs words b y j) p) (cond u (one t) nothing))
+                (and_true (has_node b (leaf_of words k)) (has_stone s bs words b y k) here))
                 (tally_small s bs words (suc k) _ p many, tally_small s bs words (suc k) _ p many, λ y. tally_small s bs words (suc k) _ p many)
                 (none (λ j. leaf_of words j == r) _ (ne_eqb (leaf_of words k) r (λ e. below (sym is_leaf ∙ e))))
                 (λ e j d. none (λ q. has_node e (leaf_of words q)) _ (not-here e j d))
                 (λ e z j m d. none (λ q. leaf_of words q == z) _ (ne_eqb (leaf_of words k) z (λ q. d (sym q ∙ is_leaf))))
-                (λ e y j m d. none (λ q. has_node e (leaf_of words q) && has_stone s bs words e y q) _ (and_left (has_node e (leaf_of words k)) (has_stone s bs words e y k) (not-here e j d)))
+                (λ e y j m d. none (λ q. has_node e (leaf_of words q) && has_stone s bs words e y q) _
+                (and_left (has_node e (leaf_of words k)) (has_stone s bs words e y k) (not-here e j d)))
                 (leaf_set sums leaf (slice_index sums leaf + 1) (standing s bs words own k) node a.counts);
             leaves = λ x m. ⊎_elim
                 (λ (e : x ≡ leaf).

@@ -157,7 +157,10 @@ module _ (s : Setting) (words : List ℕ) (h : IsSetting s) (t : Table) (p : ℕ
               (λ (e : b ≡ block). subst (ShowBlock words) (sym e) st.shown)
               (λ (e : In b bs). sc.shown b e) i;
           complete = (record { claimed = st.claimed; inside = (sc.area, st.inside); empties = empties; cells = refl }, sc.complete);
-          ended = (record { claimed = omega arith; inside = (sc.area, st.inside); empties = empties; cells = refl }, complete-more s p (p + size block) bs (omega arith) sc.ended);
+          ended = (
+            record { claimed = omega arith; inside = (sc.area, st.inside); empties = empties; cells = refl },
+            complete-more s p (p + size block) bs (omega arith) sc.ended,
+          );
           area = omega (arith, area);
           table = put_table;
           links = put_links;

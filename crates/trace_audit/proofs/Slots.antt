@@ -46,7 +46,8 @@ entry_own slots i n e d = ap (λ (m : ℕ). cond (m % 4 == i % 4) (m / 4) 0) e
 pub entries_none : (n m : ℕ) → entries_from 0 n (replicate m 0) ≡ replicate n 0
 entries_none n m = same_number_lists (entries_from 0 n (replicate m 0)) (replicate n 0)
     (entries_long 0 n (replicate m 0) ∙ sym (length-replicate {A = ℕ} n 0))
-    (λ k l. entries_at 0 n (replicate m 0) k (omega (arith, l, entries_long 0 n (replicate m 0))) ∙ entry_none (replicate m 0) (0 + k) (none_left m ((0 + k) / 4)) ∙ sym (none_left n k))
+    (λ k l. entries_at 0 n (replicate m 0) k (omega (arith, l, entries_long 0 n (replicate m 0))) ∙ entry_none
+    (replicate m 0) (0 + k) (none_left m ((0 + k) / 4)) ∙ sym (none_left n k))
 
 pub slots_none : (n : ℕ) → AreSlots n (replicate (n / 4 + 1) 0)
 slots_none n = record {
@@ -104,7 +105,8 @@ module _ (n : ℕ) (slots : List ℕ) (a : AreSlots n slots) (at : ℕ) (l : at 
         (λ q. same_piece k f e (omega (arith, sym q, is))) in
         let none : entry_in slots k ≡ 0 = ⊎_elim
         (λ (q : slice_index slots (at / 4) ≡ 0). entry_none slots k (ap (slice_index slots) f ∙ q))
-        (λ (q : slice_index slots (at / 4) % 4 ≡ at % 4). entry_other slots k (slice_index slots (at / 4)) (ap (slice_index slots) f) (λ w. same_piece k f e (sym w ∙ q)))
+        (λ (q : slice_index slots (at / 4) % 4 ≡ at % 4). entry_other slots k (slice_index slots (at / 4))
+        (ap (slice_index slots) f) (λ w. same_piece k f e (sym w ∙ q)))
         free in
         new ∙ sym none ∙ sym stays)
         (λ (f : k / 4 ≡ at / 4 → ⊥). ap (λ (m : ℕ). cond (m % 4 == k % 4) (m / 4) 0) (get_or-set_other slots (at / 4) (k / 4) v 0 f) ∙ sym stays)

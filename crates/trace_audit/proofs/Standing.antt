@@ -64,7 +64,8 @@ module _ (s : Setting) (p : Position) (x at e : ℕ) (cs before block : List ℕ
       ∙ head_same made (block_at s p x at) i refl same cells
 
   pub stands_is : (words : List ℕ)
-      → ((i : ℕ) → i < size (block_at s p x at) → is_header_or_move i ≡ true → slice_index words (at + i) ≡ slice_index block i) → ShowBlock words (block_at s p x at)
+      → ((i : ℕ) → i < size (block_at s p x at) → is_header_or_move i ≡ true → slice_index words (at + i) ≡ slice_index
+      block i) → ShowBlock words (block_at s p x at)
   stands_is words h i l t = h i l t ∙ written_is i l t
 
   pub stands_not : (words : List ℕ) → ShowBlock words (block_at s p x at) → (i : ℕ)

@@ -132,7 +132,8 @@ module _ (s : Setting) (bs : List LinkedBlock) (words : List ℕ) (n : ℕ) wher
   tally_turned w f c d o e
       = turned_count w (tally_of s bs words n f c) (tally_of s bs words n f d) e refl
       (count_sum n (λ k. f k && is_same (outcome_in s bs words k).winner c) (λ k. f k && is_same (outcome_in s bs words k).winner d) f
-      (λ k l. won_once (f k) (outcome_in s bs words k).winner c ∙ (λ j. one_if (f k && is_same (outcome_in s bs words k).winner c) + one_if (f k && is_same (outcome_in s bs words k).winner (sym o j)))))
+      (λ k l. won_once (f k) (outcome_in s bs words k).winner c
+      ∙ (λ j. one_if (f k && is_same (outcome_in s bs words k).winner c) + one_if (f k && is_same (outcome_in s bs words k).winner (sym o j)))))
 
 -- one playout more
 pub tally_next : (s : Setting) (bs : List LinkedBlock) (words : List ℕ) (n : ℕ) (f : ℕ → Bool)

@@ -177,5 +177,6 @@ pub text_is : (bytes items words : List ℕ) (s : Setting) (q : ℕ) → items �
     → IsReadTree (record { shape = s; words = items })
     × (bytes ≡ trace_text (record { shape = s; words = items }) ++ drop (128 + 8 * q) bytes)
 text_is bytes items words s q same f l a h z e
-    = subst (λ (ws : List ℕ). IsReadTree (record { shape = s; words = ws }) × (bytes ≡ trace_text (record { shape = s; words = ws }) ++ drop (128 + 8 * q) bytes)) (sym same)
+    = subst (λ (ws : List ℕ). IsReadTree (record { shape = s; words = ws })
+    × (bytes ≡ trace_text (record { shape = s; words = ws }) ++ drop (128 + 8 * q) bytes)) (sym same)
     (text_tree bytes words s q f l a z e, text_begins bytes words s q f l h e)

@@ -43,8 +43,13 @@ unseen_next words sums b n unseen cell v a is inside e c l = ⊎_elim
     let stays : slice_index (set unseen cell v) c ≡ slice_index unseen c
     = get_or-set_other unseen cell c v 0 q in
     ⊎_elim
-    (λ (f : (k : ℕ) × (k < n) × (cell_of_node words b k ≡ c) × (slice_index unseen c ≡ turned_word (slice_index sums (node_at b k + 3)))). inl (f.0, omega (arith, f.1), f.2, stays ∙ f.3))
+    (λ (f : (k : ℕ) × (k < n) × (cell_of_node words b k ≡ c)
+    × (slice_index unseen c ≡ turned_word (slice_index sums (node_at b k + 3)))). inl (f.0, omega (arith, f.1), f.2, stays ∙ f.3))
     (λ (f : ((k : ℕ) → k < n → cell_of_node words b k ≡ c → ⊥) × (slice_index unseen c ≡ 0)).
-    inr (λ k m z. ⊎_elim (λ (w : k ≡ n). q (sym z ∙ ap (cell_of_node words b) w ∙ sym is)) (λ (w : k ≡ n → ⊥). f.0 k (omega (arith, m, w)) z) (cases_eq k n), stays ∙ f.1))
+    inr (
+      λ k m z. ⊎_elim (λ (w : k ≡ n). q (sym z ∙ ap (cell_of_node words b) w ∙ sym is))
+          (λ (w : k ≡ n → ⊥). f.0 k (omega (arith, m, w)) z) (cases_eq k n),
+      stays ∙ f.1,
+    ))
     (a c l))
     (cases_eq c cell)

@@ -66,7 +66,8 @@ module _ (s : Setting) (words : List ℕ) (t : Table) (bs : List LinkedBlock) (h
         → Grown s bs words → ⊥
     not_first some g =
         let f = site_block s words t bs h lk some.0 some.1 some.2 in
-        some.3 (λ i j l m e. g.first f.0 _ _ f.1 (site_node s words t bs h long lk some.0 some.1 some.2 i l) (site_node s words t bs h long lk some.0 some.1 some.2 j m) e)
+        some.3 (λ i j l m e. g.first f.0 _ _ f.1 (site_node s words t bs h long lk some.0 some.1 some.2 i l)
+        (site_node s words t bs h long lk some.0 some.1 some.2 j m) e)
 
     frugal_board : (k : ℕ) (d : Site) (l : k < length t.sites.items) (j : ℕ)
         → j < nodes_in words (slice_index_or t.sites.items k d).start
@@ -102,8 +103,14 @@ module _ (s : Setting) (words : List ℕ) (t : Table) (bs : List LinkedBlock) (h
           let g = block_site s words t bs h long lk b y i m in
           let d : Site = record { start = 0; board = s.board; player = s.player } in
           let start = f.2 d in
-          let at = λ (j z : ℕ) (q : z ≡ node_at b.start j). ap (λ (u : ℕ). (tally_in words (node_at u j)).visits) start ∙ ap (λ (v : ℕ). (tally_in words v).visits) (sym q) in
-          omega (arith, first f.0 d f.1 f.3.0 g.3.0 (omega (arith, f.3.1, ap (nodes_in words) start)) (omega (arith, g.3.1, ap (nodes_in words) start)) (at g.3.0 y g.3.2 ∙ e), at f.3.0 x f.3.2);
+          let at = λ (j z : ℕ) (q : z ≡ node_at b.start j). ap (λ (u : ℕ). (tally_in words (node_at u j)).visits) start
+          ∙ ap (λ (v : ℕ). (tally_in words v).visits) (sym q) in
+          omega (
+            arith,
+            first f.0 d f.1 f.3.0 g.3.0 (omega (arith, f.3.1, ap (nodes_in words) start))
+                (omega (arith, g.3.1, ap (nodes_in words) start)) (at g.3.0 y g.3.2 ∙ e),
+            at f.3.0 x f.3.2,
+          );
       leaves = λ l x c n e. ⊎_elim
           (λ (r : x ≡ root_at s).
           let none : ends_at words s.knobs.playouts x ≡ 0

@@ -21,7 +21,8 @@ record_some : (s : Setting) (words : List ℕ) (k : ℕ) → IsClosed s words �
 record_some s words k closed l e =
     let leaf : leaf_of words k ≡ 0 = ap (λ v. v / 2) e in
     ⊎_elim (λ (h : leaf_of words k ≡ root_at s). omega arith)
-    (λ (h : (area_at s ≤ leaf_of words k) × (leaf_of words k + 4 ≤ next_in words) × (leaf_of words k + 4 ≤ s.knobs.playouts + s.knobs.words + 6)). let above = h.0 in omega arith)
+    (λ (h : (area_at s ≤ leaf_of words k) × (leaf_of words k + 4 ≤ next_in words)
+    × (leaf_of words k + 4 ≤ s.knobs.playouts + s.knobs.words + 6)). let above = h.0 in omega arith)
     (node-lies s (next_in words) closed.blocks (leaf_of words k) closed.linked.complete
     (closed.recorded k l).node)
 

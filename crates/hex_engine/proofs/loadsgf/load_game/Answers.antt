@@ -13,7 +13,8 @@ pub returns-in-Ok-Some-clause-came : goal.returns-in-Ok-Some-clause-came
 returns-in-Ok-Some-clause-came g c =
     let e : c.fetch.result ≡ Ok (Some c.in-Ok-Some.bytes) = cc in
     if_ok c.read_file.result _ _
-    (λ file h. fetched_one _ _ _ _ (Contents c.in-Ok-Some.bytes.items) file c.fetch.ensures.told (ap (says (λ f. f.items)) e) (subst (λ l. IsReadAs l file) c.deref.ensures.value h)) c.read_file.ensures
+    (λ file h. fetched_one _ _ _ _ (Contents c.in-Ok-Some.bytes.items) file c.fetch.ensures.told
+    (ap (says (λ f. f.items)) e) (subst (λ l. IsReadAs l file) c.deref.ensures.value h)) c.read_file.ensures
 
 pub returns-in-Ok-Some-clause-vain : goal.returns-in-Ok-Some-clause-vain
 returns-in-Ok-Some-clause-vain g c =

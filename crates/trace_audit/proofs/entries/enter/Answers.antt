@@ -47,7 +47,9 @@ returns c = λ s bs g last e. let h = g.0 in let long = g.1 in let sc = g.2 in l
     match_on c.enter.result
     (c.enter.new.self ≡ set c.args.table.now.index start c.in_ok-number.number)
     (IsNearTaken c.args.table.now.index start) _ _
-    (λ m. enter_some s c.args.words.now c.args.table.now _ c.args.x c.args.free bs sc n _ start refl e (sym c.at-link.ensures) free inside (sym c.at.ensures ∙ c.if-at-x.false)
+    (λ m. enter_some s c.args.words.now c.args.table.now _ c.args.x c.args.free bs sc n _ start refl e
+    (sym c.at-link.ensures) free inside (sym c.at.ensures ∙ c.if-at-x.false)
     (m ∙ ap (λ (k : ℕ). set c.args.table.now.index start k) number) c.in-Ok.ensures.items refl)
-    (λ m. two_close s c.args.words.now h c.args.table.now c.args.x c.args.free bs sc n start (sym c.at-link.ensures) free m.0 (record { board = s.board; start = 0; player = s.player }) m.1 m.2 m.3 m.4)
+    (λ m. two_close s c.args.words.now h c.args.table.now c.args.x c.args.free bs sc n start (sym c.at-link.ensures)
+    free m.0 (record { board = s.board; start = 0; player = s.player }) m.1 m.2 m.3 m.4)
     c.enter.ensures

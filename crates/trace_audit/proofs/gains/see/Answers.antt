@@ -21,8 +21,10 @@ nodes-preserved c =
     elim c.if-has.branch [
       | then-has w ↦ subst (λ (l : List ℕ). Sees c.args.words.now b (n + 1) gift c.args.sums.now l)
           (sym w.sums-is)
-          (sees_next c.args.words.now b n gift c.args.sums.now c.nodes.sums c.nodes.invariant _ (ap (λ (t : Bool). slice_index c.nodes.sums (b + 4 + 4 * n + 3) + cond t c.args.amount 0) (sym (sym is ∙ w.if-has.true))) fits)
+          (sees_next c.args.words.now b n gift c.args.sums.now c.nodes.sums c.nodes.invariant _
+          (ap (λ (t : Bool). slice_index c.nodes.sums (b + 4 + 4 * n + 3) + cond t c.args.amount 0) (sym (sym is ∙ w.if-has.true))) fits)
       | else-has w ↦ subst (λ (l : List ℕ). Sees c.args.words.now b (n + 1) gift c.args.sums.now l)
           (sym w.sums-is)
-          (sees_past c.args.words.now b n gift c.args.sums.now c.nodes.sums c.nodes.invariant (ap (λ (t : Bool). cond t c.args.amount 0) (sym is ∙ w.if-has.false)))
+          (sees_past c.args.words.now b n gift c.args.sums.now c.nodes.sums c.nodes.invariant
+          (ap (λ (t : Bool). cond t c.args.amount 0) (sym is ∙ w.if-has.false)))
     ]

@@ -18,5 +18,6 @@ nodes-preserved c =
     let small = c.requires.cells c.nodes.place
     (omega (arith, c.nodes-test.true, c.at-count.ensures)) in (
       length-set c.nodes.unseen c.cell_of.result c.turned.result ∙ long,
-      unseen_next c.args.words.now c.args.sums.now c.args.block c.nodes.place c.nodes.unseen c.cell_of.result c.turned.result c.nodes.invariant.1 cell (omega (arith, cell, small, long)) c.turned.ensures,
+      unseen_next c.args.words.now c.args.sums.now c.args.block c.nodes.place c.nodes.unseen c.cell_of.result
+          c.turned.result c.nodes.invariant.1 cell (omega (arith, cell, small, long)) c.turned.ensures,
     )

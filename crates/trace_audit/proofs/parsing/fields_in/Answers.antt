@@ -17,6 +17,7 @@ returns c =
     record {
       count = c.read_words.ensures.long;
       words = c.read_words.ensures.range (no_words 15);
-      header = front_is c.args.bytes.now fields c.starts_with.result c.starts_with.ensures.value c.if-not-starts_with.false (subst (StandAt c.args.bytes.now 8) all c.read_words.ensures.read);
+      header = front_is c.args.bytes.now fields c.starts_with.result c.starts_with.ensures.value
+          c.if-not-starts_with.false (subst (StandAt c.args.bytes.now 8) all c.read_words.ensures.read);
       long = omega (arith, c.if-bytes-lt-HEADER_BYTES.false);
     }

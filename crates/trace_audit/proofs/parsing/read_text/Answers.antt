@@ -7,11 +7,20 @@ use Rattle.trace_audit.proofs.parsing.read_text.Goals as goal
 
 pub of-words-requires-clause-whole : goal.of-words-requires-clause-whole
 of-words-requires-clause-whole c
-    = omega (arith, held_long c.args.bytes.now (λ k. (c.type_inv.bytes k).fits) c.in-Some.header.shape c.cut_at-cut.result c.in-Some.header.count c.total.result _ c.in-Some.ensures refl c.total.ensures c.cut_at-cut.ensures.enough)
+    = omega (
+      arith,
+      held_long c.args.bytes.now (λ k. (c.type_inv.bytes k).fits) c.in-Some.header.shape
+          c.cut_at-cut.result c.in-Some.header.count c.total.result _ c.in-Some.ensures refl c.total.ensures c.cut_at-cut.ensures.enough,
+    )
 
 pub at-requires : goal.at-requires
 at-requires c
-    = omega (arith, text_long c.args.bytes.now (λ k. (c.type_inv.bytes k).fits) c.in-Some.header.shape c.cut_at-cut.result c.in-Some.header.count c.total.result _ c.in-Some.ensures refl c.total.ensures c.cut_at-cut.ensures.enough c.of-words.result c.of-words.ensures)
+    = omega (
+      arith,
+      text_long c.args.bytes.now (λ k. (c.type_inv.bytes k).fits) c.in-Some.header.shape
+          c.cut_at-cut.result c.in-Some.header.count c.total.result _ c.in-Some.ensures refl c.total.ensures
+          c.cut_at-cut.ensures.enough c.of-words.result c.of-words.ensures,
+    )
 
 pub returns-then-min-header : goal.returns-then-min-header
 returns-then-min-header c =

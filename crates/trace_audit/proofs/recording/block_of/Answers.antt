@@ -29,7 +29,15 @@ returns-then-at-place c = λ s bs g b i n. let h = g.0 in let long = g.1 in let 
     let m = place_word s c.args.words.now c.args.table.now bs h lk b c.args.leaf i n in
     let at : c.args.leaf - (4 + 4 * (c.at.result / 256)) ≡ b.start
     = omega (arith, m.0, c.at.ensures) in
-    omega (arith, c.if-at-place.true, c.at-2.ensures, ap (λ (y : ℕ). slice_index c.args.words.now (y + 3)) at, count_word s c.args.words.now c.args.table.now bs h lk b i, m.1, c.at.ensures)
+    omega (
+      arith,
+      c.if-at-place.true,
+      c.at-2.ensures,
+      ap (λ (y : ℕ). slice_index c.args.words.now (y + 3)) at,
+      count_word s c.args.words.now c.args.table.now bs h lk b i,
+      m.1,
+      c.at.ensures,
+    )
 
 pub returns : goal.returns
 returns c = λ s bs g. let h = g.0 in let long = g.1 in let lk = g.2 in

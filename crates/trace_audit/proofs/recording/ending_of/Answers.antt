@@ -8,7 +8,8 @@ use Rattle.trace_audit.proofs.recording.ending_of.Goals.{then-joined, else-joine
 pub returns-clause-winner : goal.returns-clause-winner
 unfolding playout_of
 returns-clause-winner c =
-    let same : winner_by c.fill-full.result.size c.fill-full.result.black ≡ playout_of c.args.site.now.board c.args.site.now.player c.args.seed c.args.k = ap (λ (p : Position). winner_by p.size p.black) c.fill-full.ensures.value in
+    let same : winner_by c.fill-full.result.size c.fill-full.result.black ≡ playout_of c.args.site.now.board
+    c.args.site.now.player c.args.seed c.args.k = ap (λ (p : Position). winner_by p.size p.black) c.fill-full.ensures.value in
     elim c.if-joined.branch [
       | then-joined w ↦ w.winner-is
           ∙ sym (ap (λ t. cond t Black White) (sym c.joined.ensures.value ∙ w.if-joined.true)) ∙ same

@@ -24,7 +24,8 @@ returns-clause-all g c =
     let fields = c.fields.ensures ∙ ap (fields_of c.args.closed.now.shape) count in
     let words : take c.written_count-count.result c.words-words.result.now ≡ take
     (written_count c.args.closed.now.words) c.args.closed.now.words
-    = sym (front_is c.args.closed.now.shape c.words-words.result.now c.words-words.ensures.first c.written_count-count.result c.written_count-count.ensures.range)
+    = sym (front_is c.args.closed.now.shape c.words-words.result.now c.words-words.ensures.first
+    c.written_count-count.result c.written_count-count.ensures.range)
     ∙ (λ i. take (count i) (sym c.words-words.ensures.value i)) in
     ok_then _ _ _
     (text_all _ _ _ _ c.args.closed.now _ _ fields words c.in_ok-give.ensures.all c.in_ok-give_words.ensures.all) c.give_words-2.ensures.all
@@ -36,7 +37,8 @@ returns-clause-proper g c =
     let fields = c.fields.ensures ∙ ap (fields_of c.args.closed.now.shape) count in
     let words : take c.written_count-count.result c.words-words.result.now ≡ take
     (written_count c.args.closed.now.words) c.args.closed.now.words
-    = sym (front_is c.args.closed.now.shape c.words-words.result.now c.words-words.ensures.first c.written_count-count.result c.written_count-count.ensures.range)
+    = sym (front_is c.args.closed.now.shape c.words-words.result.now c.words-words.ensures.first
+    c.written_count-count.result c.written_count-count.ensures.range)
     ∙ (λ i. take (count i) (sym c.words-words.ensures.value i)) in
     err_then _ _ _
     (text_words _ _ _ _ c.args.closed.now _ _ fields words c.in_ok-give.ensures.all c.in_ok-give_words.ensures.all) c.give_words-2.ensures.proper

@@ -24,7 +24,9 @@ returns-in_ok-obey-in-Quiet-clause-reply g c =
       used = nothing_left;
       uses = uses_nothing _ _ _;
       reacts = λ later.
-          known_reply c.args.self.now later c.args.request.now c.as_slice.result.now c.as_slice-args.result.now c.in-Some.command _ c.as_slice.ensures c.as_slice-args.ensures (sym c.named.ensures ∙ c.in-Some.is)
-          (ap (λ k. obeyed c.args.self.now later k c.as_slice-args.result.now) c.in-Quiet.is ∙ reacts_reply _ c.in_ok-obey-in-Quiet.field-0 _ later c.in_ok-obey-in-Quiet.ensures.ok);
+          known_reply c.args.self.now later c.args.request.now c.as_slice.result.now c.as_slice-args.result.now
+          c.in-Some.command _ c.as_slice.ensures c.as_slice-args.ensures (sym c.named.ensures ∙ c.in-Some.is)
+          (ap (λ k. obeyed c.args.self.now later k c.as_slice-args.result.now) c.in-Quiet.is ∙ reacts_reply _
+          c.in_ok-obey-in-Quiet.field-0 _ later c.in_ok-obey-in-Quiet.ensures.ok);
       brief = inl refl;
     }

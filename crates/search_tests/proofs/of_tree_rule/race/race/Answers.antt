@@ -14,6 +14,7 @@ returns c =
     let same : both_views c.args.first.now c.args.second.now ≡ two_seats = λ i. record { first = c.requires.first i; second = c.requires.second i } in
     record {
       ended = λ e.
-          let last : both_views c.follow.new.a c.follow.new.b ≡ after_script two_seats script = c.follow.ensures.views e ∙ (λ i. after_script (same i) script) in
+          let last : both_views c.follow.new.a c.follow.new.b ≡ after_script two_seats script = c.follow.ensures.views e
+          ∙ (λ i. after_script (same i) script) in
           subst (λ (t : TwoViews). RaceEnds t.first t.second) (sym last) ended;
     }

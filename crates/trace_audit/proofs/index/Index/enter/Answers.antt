@@ -49,10 +49,12 @@ returns c =
     = c.index-slot.ensures
     ∙ get_or_default_zero c.self.inside.slots.items
     (c.args.at / 4) c.index-slot.result.now inside in
-    let free : (slice_index c.self.inside.slots.items (c.args.at / 4) ≡ 0) ⊎ (slice_index c.self.inside.slots.items (c.args.at / 4) % 4 ≡ c.args.at % 4) = elim c.else-slot-ne0.branch [
+    let free : (slice_index c.self.inside.slots.items (c.args.at / 4) ≡ 0) ⊎
+    (slice_index c.self.inside.slots.items (c.args.at / 4) % 4 ≡ c.args.at % 4) = elim c.else-slot-ne0.branch [
       | else-slot-ne0-via-then-slot-ne0+else-slot-place w ↦ inr
           (ap (λ (n : ℕ). n % 4) (sym slot) ∙ w.if-slot-place.false)
       | else-slot-ne0-via-else-slot-ne0 w ↦ inl (sym slot ∙ w.if-slot-ne0.false)
     ] in
-    entries_set c.self.inside.len c.self.inside.slots.items c.self.invariant c.args.at few c.args.number (4 * c.args.number + c.args.at % 4) c.requires.least refl free
+    entries_set c.self.inside.len c.self.inside.slots.items c.self.invariant c.args.at few c.args.number
+    (4 * c.args.number + c.args.at % 4) c.requires.least refl free
     ∙ ap (λ (l : List ℕ). set l c.args.at c.args.number) c.self.view_is

@@ -18,7 +18,8 @@ returns-then-slot-at c =
     let slot : slice_index c.self.inside.slots.items (c.args.at / 4) ≡ c.index-slot.result.now
     = sym (c.index-slot.ensures ∙ get_or_default_zero c.self.inside.slots.items (c.args.at / 4) c.index-slot.result.now inside) in
     let zero_more : 0 + c.args.at ≡ c.args.at = omega arith in
-    sym (ap (λ (l : List ℕ). slice_index l c.args.at) (sym c.self.view_is) ∙ entries_at 0 c.self.inside.len c.self.inside.slots.items c.args.at few ∙ ap (entry_in c.self.inside.slots.items) zero_more
+    sym (ap (λ (l : List ℕ). slice_index l c.args.at) (sym c.self.view_is) ∙ entries_at 0 c.self.inside.len
+    c.self.inside.slots.items c.args.at few ∙ ap (entry_in c.self.inside.slots.items) zero_more
     ∙ entry_own c.self.inside.slots.items c.args.at c.index-slot.result.now slot c.if-slot-at.true)
 
 pub returns-else-slot-at : goal.returns-else-slot-at
@@ -29,5 +30,6 @@ returns-else-slot-at c =
     let slot : slice_index c.self.inside.slots.items (c.args.at / 4) ≡ c.index-slot.result.now
     = sym (c.index-slot.ensures ∙ get_or_default_zero c.self.inside.slots.items (c.args.at / 4) c.index-slot.result.now inside) in
     let zero_more : 0 + c.args.at ≡ c.args.at = omega arith in
-    sym (ap (λ (l : List ℕ). slice_index l c.args.at) (sym c.self.view_is) ∙ entries_at 0 c.self.inside.len c.self.inside.slots.items c.args.at few ∙ ap (entry_in c.self.inside.slots.items) zero_more
+    sym (ap (λ (l : List ℕ). slice_index l c.args.at) (sym c.self.view_is) ∙ entries_at 0 c.self.inside.len
+    c.self.inside.slots.items c.args.at few ∙ ap (entry_in c.self.inside.slots.items) zero_more
     ∙ entry_other c.self.inside.slots.items c.args.at c.index-slot.result.now slot c.if-slot-at.false)

@@ -12,10 +12,12 @@ word_at-requires c = omega (arith, c.requires, c.self.invariant, c.if-bytes-from
 
 pub returns-then-bytes-from : goal.returns-then-bytes-from
 returns-then-bytes-from c
-    = sym (ap (λ l. slice_index l c.args.at) (sym c.self.view_is) ∙ from_past c.self.inside.len c.args.at c.self.inside.bytes.now (omega (arith, c.if-bytes-from.true)))
+    = sym (ap (λ l. slice_index l c.args.at) (sym c.self.view_is) ∙ from_past c.self.inside.len c.args.at
+    c.self.inside.bytes.now (omega (arith, c.if-bytes-from.true)))
 
 pub returns : goal.returns
 returns c =
     let long : c.args.at < c.self.inside.len
     = omega (arith, c.requires, ap length c.self.view_is, from_long c.self.inside.len c.self.inside.bytes.now) in
-    from_read c.self.inside.len c.args.at c.word_at.result c.self.inside.bytes.now long c.word_at.ensures.range c.word_at.ensures.bytes ∙ ap (λ l. slice_index l c.args.at) c.self.view_is
+    from_read c.self.inside.len c.args.at c.word_at.result c.self.inside.bytes.now long c.word_at.ensures.range
+    c.word_at.ensures.bytes ∙ ap (λ l. slice_index l c.args.at) c.self.view_is
