@@ -6,7 +6,7 @@ import os
 from dataclasses import dataclass
 from pathlib import Path
 
-# How strongly hexd plays for the page, the board and hexd-gtp: `strengths` by their names, of which `solve` goes by the size of
+# How strongly hexd plays for the page, the board and hexd-gtp: `strengths` by their names, whose numbers may go by the size of
 # the board; how numbers are chosen for a clock; and an opening near even for each size.
 TABLE = json.loads(Path(__file__).resolve().with_name("settings.json").read_text())
 # What hexd's look-ahead once said of each first stone of boards on which nothing is proved, by tools/first_stones.py.
@@ -85,11 +85,13 @@ class Given:
 def strength_options(name, size):
     """hexd's options for a strength of the table on a size of board: those of weight, playouts, look and solve that it has."""
     given = TABLE["strengths"][name]
-    if "solve" not in given:
-        return given
-    sizes = sorted(map(int, given["solve"]))
-    least = next((it for it in sizes if it >= size), sizes[-1])
-    return {**given, "solve": given["solve"][str(least)]}
+    return {option: by_size(value, size) if isinstance(value, dict) else value for option, value in given.items()}
+
+
+def by_size(values, size):
+    """The value of a table by sizes: that of the least size in it that isn't below this one."""
+    sizes = sorted(map(int, values))
+    return values[str(next((least for least in sizes if least >= size), sizes[-1]))]
 
 
 def asked_of(text):

@@ -16,7 +16,6 @@ from engine import Refused, Request, TooLate
 from words import Words
 
 TABLE = settings.TABLE
-NORMAL = TABLE["strengths"][TABLE["default"]]
 # What a start costs, in seconds; and how much is a large search.
 START, LARGE = 0.02, 500
 LIMIT = 120

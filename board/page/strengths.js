@@ -26,8 +26,8 @@ class Strengths {
   options(strength, size) {
     if (strength === STARTED) return this.started;
     if (secondsOf(strength)) return this.pace(strength, size).options;
-    const {solve, ...others} = this.table.strengths[strength];
-    return solve ? {...others, solve: bySize(solve, size)} : others;
+    const given = Object.entries(this.table.strengths[strength]);
+    return Object.fromEntries(given.map(([name, value]) => [name, typeof value === 'object' ? bySize(value, size) : value]));
   }
 
   /** What the clock gives a move on a size, if the strength is one by the clock; else null. Another one begins anew. */

@@ -373,8 +373,9 @@ class Lasting(Pages):
                 browser = self.start(f"{size},a6")
             browser.choose("#strength", name)
             options = settings.strength_options(name, size)
-            positions = settings.TABLE["strengths"][name]["solve"]
-            self.assertEqual(positions["6"] if size == 6 else positions.get("10", positions["11"]), options["solve"])
+            table = settings.TABLE["strengths"][name]
+            self.assertEqual(table["solve"]["6"] if size == 6 else table["solve"].get("10", table["solve"]["11"]), options["solve"])
+            self.assertEqual(table["look"] if name == "quick" else table["look"]["9"], options["look"])
             self.soon_in(f"look-ahead of {options['look']:,} nodes", "#strength-words")
             browser.press("#hint")
             wanted = {f"--{option}={value}" for option, value in options.items()}
