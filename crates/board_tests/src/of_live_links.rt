@@ -101,7 +101,7 @@ fn compare(
     let mut room = Room::make(alloc);
     let mut circuit = Circuit::make(alloc)?;
     anew.load(board, player, Until::Closed)?;
-    kept.keep(&anew)?;
+    kept.keep(&mut anew);
     let mut rest = board.empties();
     for _cell in 0..MOST_CELLS {
         let Some(cell) = rest.least() else {

@@ -1,7 +1,7 @@
 //! Entries come, and are taken one after the other.
 
 use super::bits::Bits;
-use super::entries::{Entry, Pair, State};
+use super::entries::{Entry, Held, Pair, State};
 use super::links::Links;
 use std::alloc::AllocError;
 
@@ -14,21 +14,28 @@ impl Links {
     /// where there are as many.
     #[inline(always)]
     pub(crate) fn add(&mut self, pair: Pair, carrier: Bits) -> Result<(), AllocError> {
-        let most = pair.most();
-        let size = carrier.count();
-        let Some(held) = self.pairs.get_mut(pair.place()) else {
-            return Ok(());
-        };
-        if !held.wants(&self.entries, carrier, size, most) || MOST_ENTRIES <= self.entries.len() {
+        let held = self.pairs.at(pair);
+        if held.wants(&self.entries, carrier, carrier.count(), pair.most()) {
+            self.put(pair, held, carrier)?;
+        }
+        Ok(())
+    }
+
+    // Adds an entry that its pair wants, which has these.
+    fn put(&mut self, pair: Pair, held: Held, carrier: Bits) -> Result<(), AllocError> {
+        if MOST_ENTRIES <= self.entries.len() {
             return Ok(());
         }
-        let gone = held.make_place(&mut self.entries, carrier, most);
+        let mut held = held;
+        let most = pair.most();
+        let entry = Entry::of(pair, carrier);
+        let gone = held.make_place(&mut self.entries, carrier, entry.size, most);
         let number = self.entries.len().min(usize::from(u16::MAX)) as u16;
-        self.entries.push(Entry::of(pair, carrier))?;
-        held.enlist(number, size);
+        self.entries.push(entry)?;
+        held.enlist(number, entry.size);
         held.measure(&self.entries, most);
-        self.live = self.live.saturating_sub(gone).saturating_add(1);
-        self.queue.put(&mut self.entries, number, size);
+        self.pairs.put(pair, &held);
+        self.queue.put(&mut self.entries, number, entry.size);
         if 0 < gone {
             self.unlink(pair);
         }

@@ -55,13 +55,13 @@ impl Change {
     /// Whether a pair's entries all change, or are gone.
     #[inline(always)]
     pub(crate) fn ends_at(&self, pair: Pair) -> bool {
-        self.ends[pair.x as usize] || self.ends[pair.y as usize]
+        self.ends[pair.x as usize] | self.ends[pair.y as usize]
     }
 
     /// Whether an entry changes, or is gone.
     #[inline(always)]
     pub(crate) fn touches(&self, entry: &Entry) -> bool {
-        entry.carrier.meets(self.lost.union(self.gained)) || self.ends_at(entry.pair)
+        entry.carrier.meets(self.lost.union(self.gained)) | self.ends_at(entry.pair)
     }
 
     /// Whether an entry is gone: it ends at a cell that is lost, or needs one.

@@ -9,14 +9,11 @@ const MOST_FULL: u8 = 4;
 // The most semi entries of two elements.
 const MOST_SEMI: u8 = 6;
 
-// The places of a pair.
-const PLACES: usize = 6;
+/// The places of a pair.
+pub(crate) const PLACES: usize = 6;
 
-// How many times two elements can be chosen.
-const TWOS: usize = MOST_ELEMENTS * (MOST_ELEMENTS - 1) / 2;
-
-/// How many pairs there are: full ones, and as many semi ones behind them.
-pub(crate) const PAIRS: usize = 2 * TWOS;
+/// How many places pairs have: two for each two elements, and some that stay empty.
+pub(crate) const PAIRS: usize = MOST_ELEMENTS * (MOST_ELEMENTS + 1);
 
 /// The number of no entry.
 pub(crate) const NOBODY: u16 = u16::MAX;
@@ -37,12 +34,11 @@ impl Pair {
         Pair { x, y, is_full }
     }
 
-    /// The place of its entries.
+    /// The place of its entries: those of a full pair stand behind those of the semi one.
     #[inline(always)]
     pub(crate) fn place(self) -> usize {
         let (x, y) = (self.x as usize, self.y as usize);
-        let two = y * y.saturating_sub(1) / 2 + x;
-        if self.is_full { two } else { TWOS + two }
+        y * (y + 1) + 2 * x + usize::from(self.is_full)
     }
 
     /// The most entries that it has.
@@ -90,14 +86,12 @@ impl Entry {
 }
 
 /// The numbers of a pair's entries.
-#[derive(Clone, Copy, Debug, PartialEq, Eq)]
+#[derive(Clone, Copy)]
 pub(crate) struct Held {
-    count: u8,
-    // No entry has more cells. If the pair has as many entries as it may, the widest has so many.
-    widest: u8,
-    // How many were lost by the other player's stones.
-    lost: u8,
-    at: [u16; PLACES],
+    pub count: u8,
+    /// No entry has more cells. If the pair has as many entries as it may, the widest has so many.
+    pub widest: u8,
+    pub at: [u16; PLACES],
 }
 
 impl Held {
@@ -106,7 +100,6 @@ impl Held {
         Held {
             count: 0,
             widest: 0,
-            lost: 0,
             at: [0; PLACES],
         }
     }
@@ -117,28 +110,10 @@ impl Held {
         self.at.get(..self.count as usize).unwrap_or(&[])
     }
 
-    /// Whether it has none.
-    #[inline(always)]
-    pub(crate) fn is_empty(&self) -> bool {
-        self.count == 0
-    }
-
     /// Whether it has as many.
     #[inline(always)]
     pub(crate) fn is_full(&self, most: u8) -> bool {
         most <= self.count
-    }
-
-    /// Says that one of its entries is lost.
-    pub(crate) fn lose(&mut self) {
-        self.lost = self.lost.saturating_add(1);
-    }
-
-    /// Whether it lost one of as many, and that wasn't asked before.
-    pub(crate) fn is_due(&mut self, most: u8) -> bool {
-        let is_due = 0 < self.lost && most <= self.count.saturating_add(self.lost);
-        self.lost = 0;
-        is_due
     }
 
     /// Whether an entry of this size and carrier is one to add: there is no narrower one, and not
@@ -170,8 +145,8 @@ impl Held {
         false
     }
 
-    /// Takes this entry out, if it is there.
-    pub(crate) fn remove(&mut self, number: u16) {
+    // Takes this entry out, if it is there.
+    fn remove(&mut self, number: u16) {
         let mut place = PLACES;
         for (there, other) in self.numbers().iter().enumerate() {
             if *other == number {
@@ -187,9 +162,26 @@ impl Held {
         }
     }
 
-    /// Gives up the entries around this carrier, and the widest one if there are still as many: how
-    /// many that were.
-    pub(crate) fn make_place(&mut self, entries: &mut [Entry], carrier: Bits, most: u8) -> usize {
+    /// Gives up the entries around a carrier that is wanted, and the widest one if there are still
+    /// as many: how many that were.
+    #[inline(always)]
+    pub(crate) fn make_place(
+        &mut self,
+        entries: &mut [Entry],
+        carrier: Bits,
+        size: u8,
+        most: u8,
+    ) -> usize {
+        // Then none lies around it, and there is a place.
+        if self.widest <= size {
+            return 0;
+        }
+        self.give_up_around(entries, carrier)
+            .saturating_add(self.give_up_widest(entries, most))
+    }
+
+    // Gives up the entries around a carrier: how many that were.
+    fn give_up_around(&mut self, entries: &mut [Entry], carrier: Bits) -> usize {
         let before = *self;
         let mut gone = 0usize;
         for number in before.numbers() {
@@ -201,15 +193,20 @@ impl Held {
                 gone = gone.saturating_add(1);
             }
         }
+        gone
+    }
+
+    // Gives up the widest entry if there are as many: how many that were.
+    fn give_up_widest(&mut self, entries: &mut [Entry], most: u8) -> usize {
         if self.is_full(most)
             && let Some(number) = self.widest_of(entries)
             && let Some(entry) = entries.get_mut(number as usize)
         {
             entry.state = State::GivenUp;
             self.remove(number);
-            gone = gone.saturating_add(1);
+            return 1;
         }
-        gone
+        0
     }
 
     // The first of the widest ones.
@@ -240,11 +237,19 @@ impl Held {
     /// Says how wide the widest one is, if there are as many.
     #[inline(always)]
     pub(crate) fn measure(&mut self, entries: &[Entry], most: u8) {
-        if self.is_full(most)
-            && let Some(number) = self.widest_of(entries)
-            && let Some(entry) = entries.get(number as usize)
-        {
-            self.widest = entry.size;
+        if self.is_full(most) {
+            self.widest = self.width_of(entries);
         }
+    }
+
+    // How many cells the widest one has.
+    fn width_of(&self, entries: &[Entry]) -> u8 {
+        let mut width = 0u8;
+        for number in self.numbers() {
+            if let Some(entry) = entries.get(*number as usize) {
+                width = width.max(entry.size);
+            }
+        }
+        width
     }
 }

@@ -6,18 +6,19 @@
 //! and a kind of entry. A player's *links* are his elements on a board and the entries between
 //! them.
 //!
-//! **A caller** makes [`Links`] of a board from nothing ([`Links::load`]), or from a copy of those
-//! of a board with fewer stones ([`Links::keep`], [`Links::follow`]). It reads whether an entry
-//! leads from edge to edge ([`Links::has_any`], [`Links::has_full`]), and which cells all semi ones
-//! between them have in common ([`Links::common`]), and draws their circuit ([`Links::draw`]).
+//! **A caller** makes [`Links`] of a board from nothing ([`Links::load`]), or from those of a board
+//! with fewer stones, which were kept ([`Links::keep`], [`Links::follow`]). It reads whether an
+//! entry leads from edge to edge ([`Links::has_any`], [`Links::has_full`]), and which cells all
+//! semi ones between them have in common ([`Links::common`]), and draws their circuit
+//! ([`Links::draw`]).
 //!
 //! **What is proved.** That each call is safe and ends.
 //!
 //! **What is only tested, or not said.** That the entries are true, and how many are found. Whoever
 //! searches by them has to choose well by any of them.
 //!
-//! **Limits.** 15,000 entries of 24 bytes: 0.6 MB for links, and at most 0.4 MB for a copy
-//! ([`Links::bare`]), which is as long as the entries that there are.
+//! **Limits.** 15,000 entries of 24 bytes: 0.6 MB for links, and at most 0.4 MB for those that are
+//! kept ([`Links::bare`]), with room for a few entries more than there are.
 //!
 //! **Why so.**
 //!
@@ -31,6 +32,8 @@
 //!   joined anew, over each middle.
 //! - Entries are taken in the order of their carriers' sizes, and a narrower one takes the place of
 //!   the widest.
+//! - How many entries a pair has stands apart from which these are: so what is cleared for each
+//!   board, and asked most, is small.
 //!
 //! Source: H-search (V. Anshelevich).
 #![tactic(auto)]
@@ -43,6 +46,7 @@ mod entries;
 mod links;
 mod loading;
 mod losses;
+mod pairs;
 mod queues;
 mod rules;
 mod stones;

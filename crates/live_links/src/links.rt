@@ -1,7 +1,8 @@
 //! What a player's links have: his elements, and the entries by pair.
 
 use super::bits::Bits;
-use super::entries::{Entry, Held, PAIRS, Pair};
+use super::entries::{Entry, Pair};
+use super::pairs::Pairs;
 use super::queues::Queue;
 use hex_board::Board;
 use hex_cells::{CellSet, Colour, MOST_CELLS, Size};
@@ -42,10 +43,8 @@ pub struct Links {
     // Of each element those with which it has a full entry that was taken.
     pub(crate) ways: [Bits; 256],
     pub(crate) entries: Vec<Entry>,
-    // How many of them weren't given up.
-    pub(crate) live: usize,
-    // The entries of each pair, at its place.
-    pub(crate) pairs: Vec<Held>,
+    // The entries of each pair.
+    pub(crate) pairs: Pairs,
     pub(crate) queue: Queue,
 }
 
@@ -53,11 +52,11 @@ impl Links {
     /// No links.
     pub fn make(alloc: Global) -> Result<Links, AllocError> {
         let mut links = Links::bare(alloc);
-        links.pairs.resize(PAIRS, Held::none())?;
+        links.pairs = Pairs::make(alloc)?;
         Ok(links)
     }
 
-    /// No links, and no room for what their pairs have: for copies alone ([`Links::keep`]).
+    /// No links, and no room for what their pairs have: to keep others alone ([`Links::keep`]).
     pub fn bare(alloc: Global) -> Links {
         Links {
             size: Size::LARGEST,
@@ -68,8 +67,7 @@ impl Links {
             of: [NO_ELEMENT; MOST_CELLS as usize],
             ways: [Bits::none(); 256],
             entries: Vec::new(alloc),
-            live: 0,
-            pairs: Vec::new(alloc),
+            pairs: Pairs::none(alloc),
             queue: Queue::none(),
         }
     }
@@ -82,8 +80,7 @@ impl Links {
         self.empties = Bits::of(board.empties());
         self.ways = [Bits::none(); 256];
         self.entries.clear();
-        self.live = 0;
-        self.pairs.fill(Held::none());
+        self.pairs.clear();
         self.queue = Queue::none();
     }
 
@@ -99,18 +96,15 @@ impl Links {
 
     // Whether there is an entry of this kind between the edges.
     fn has_edges(&self, is_full: bool) -> bool {
-        let held = self.pairs.get(Pair::of(is_full, FIRST, SECOND).place());
-        held.is_some_and(|held| !held.is_empty())
+        !self.pairs.is_empty(Pair::of(is_full, FIRST, SECOND))
     }
 
     /// The empty cells that all semi entries between the edges have in common.
     pub fn common(&self) -> CellSet {
         let mut common = self.empties;
-        if let Some(held) = self.pairs.get(Pair::of(false, FIRST, SECOND).place()) {
-            for number in held.numbers() {
-                if let Some(entry) = self.entries.get(*number as usize) {
-                    common = common.meet(entry.carrier);
-                }
+        for number in self.pairs.at(Pair::of(false, FIRST, SECOND)).numbers() {
+            if let Some(entry) = self.entries.get(*number as usize) {
+                common = common.meet(entry.carrier);
             }
         }
         common.cells()
@@ -130,8 +124,7 @@ impl Links {
 
     /// Says that none was, if none that is left was.
     pub(crate) fn unlink(&mut self, pair: Pair) {
-        let held = self.pairs.get(pair.place());
-        if pair.is_full && !held.is_some_and(|held| held.has_taken(&self.entries)) {
+        if pair.is_full && !self.pairs.at(pair).has_taken(&self.entries) {
             let (x, y) = (pair.x, pair.y);
             self.ways[x as usize] = self.ways[x as usize].minus(Bits::single(y));
             self.ways[y as usize] = self.ways[y as usize].minus(Bits::single(x));

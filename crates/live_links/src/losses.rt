@@ -25,8 +25,7 @@ impl Links {
     /// Joins a pair that lost one of as many entries as it may have, and so may have turned others
     /// away: over each middle, and the full ones also by the rule of OR.
     pub(crate) fn join_anew(&mut self, pair: Pair) -> Result<(), AllocError> {
-        let held = self.pairs.get_mut(pair.place());
-        if !held.is_some_and(|held| held.is_due(pair.most())) {
+        if !self.pairs.is_due(pair) {
             return Ok(());
         }
         let edges = Bits::single(FIRST).union(Bits::single(SECOND));
@@ -50,20 +49,8 @@ impl Links {
     fn join_over(&mut self, pair: Pair, middle: u8) -> Result<(), AllocError> {
         let between = self.alone(middle);
         let (at_x, at_y) = (self.alone(pair.x), self.alone(pair.y));
-        let Some(firsts) = self
-            .pairs
-            .get(Pair::of(true, pair.x, middle).place())
-            .copied()
-        else {
-            return Ok(());
-        };
-        let Some(seconds) = self
-            .pairs
-            .get(Pair::of(true, middle, pair.y).place())
-            .copied()
-        else {
-            return Ok(());
-        };
+        let firsts = self.pairs.at(Pair::of(true, pair.x, middle));
+        let seconds = self.pairs.at(Pair::of(true, middle, pair.y));
         for first in firsts.numbers() {
             let Some(first) = self.entries.get(*first as usize) else {
                 continue;
@@ -87,10 +74,7 @@ impl Links {
 
     // Unites each semi entry of a pair with the others.
     fn unite_anew(&mut self, pair: Pair) -> Result<(), AllocError> {
-        let semi = Pair::of(false, pair.x, pair.y);
-        let Some(held) = self.pairs.get(semi.place()).copied() else {
-            return Ok(());
-        };
+        let held = self.pairs.at(Pair::of(false, pair.x, pair.y));
         for number in held.numbers() {
             if let Some(entry) = self.entries.get(*number as usize)
                 && entry.state == State::Taken

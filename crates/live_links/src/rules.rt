@@ -55,6 +55,7 @@ impl Links {
         let between = self.alone(middle);
         let is_full = between.is_empty();
         let ours = carrier.union(between);
+        let size = ours.count();
         let closed = carrier.union(self.alone(end));
         let mut rest = self.ways[middle as usize]
             .minus(Bits::single(end))
@@ -63,16 +64,17 @@ impl Links {
             let Some(to) = rest.take() else {
                 break;
             };
-            let Some(held) = self.pairs.get(Pair::of(true, middle, to).place()).copied() else {
-                break;
-            };
-            for number in held.numbers() {
+            let pair = Pair::of(is_full, end, to);
+            if self.pairs.is_closed(pair, size) {
+                continue;
+            }
+            for number in self.pairs.at(Pair::of(true, middle, to)).numbers() {
                 if let Some(entry) = self.entries.get(*number as usize)
                     && entry.state == State::Taken
                     && !entry.carrier.meets(closed)
                 {
                     let both = ours.union(entry.carrier);
-                    self.add(Pair::of(is_full, end, to), both)?;
+                    self.add(pair, both)?;
                 }
             }
         }
@@ -81,10 +83,13 @@ impl Links {
 
     /// The rule of OR: a semi entry with one or two others of its pair that were taken.
     pub(crate) fn unite(&mut self, number: u16, entry: &Entry) -> Result<(), AllocError> {
-        let Some(held) = self.pairs.get(entry.pair.place()).copied() else {
-            return Ok(());
-        };
         let full = Pair::of(true, entry.pair.x, entry.pair.y);
+        // Whoever doesn't want this carrier wants none around it.
+        let fulls = self.pairs.at(full);
+        if !fulls.wants(&self.entries, entry.carrier, entry.size, full.most()) {
+            return Ok(());
+        }
+        let held = self.pairs.at(entry.pair);
         for (place, second) in held.numbers().iter().enumerate() {
             let Some(carrier) = self.taken_beside(number, *second) else {
                 continue;

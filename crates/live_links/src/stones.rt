@@ -1,13 +1,15 @@
 //! Links with more stones, from a copy of those before.
 
+use super::adding::MOST_ENTRIES;
 use super::bits::Bits;
 use super::changes::Change;
-use super::entries::{Entry, Held, Pair, State};
+use super::entries::{Entry, Pair, State};
 use super::links::{FIRST, Links, SECOND, Until};
 use super::queues::Queue;
 use hex_board::Board;
 use hex_cells::{Cell, CellSet, MOST_CELLS, edge};
 use std::alloc::{AllocError, Global};
+use std::mem::swap;
 
 /// Room for what changes.
 #[derive(Drop)]
@@ -48,17 +50,11 @@ impl Links {
         self.run(until)
     }
 
-    /// Makes these a copy of others, from which those with more stones can be made.
-    pub fn keep(&mut self, other: &Links) -> Result<(), AllocError> {
+    /// Makes these others, from which those with more stones can be made. The others are good for
+    /// nothing then but to be made anew.
+    pub fn keep(&mut self, other: &mut Links) {
         self.copy_elements(other);
-        self.entries.clear();
-        self.entries.reserve(other.live)?;
-        for entry in other.entries.iter() {
-            if entry.state != State::GivenUp {
-                self.entries.push(*entry)?;
-            }
-        }
-        Ok(())
+        swap(&mut self.entries, &mut other.entries);
     }
 
     // Copies all but the entries.
@@ -70,7 +66,6 @@ impl Links {
         self.active = other.active;
         self.of = other.of;
         self.ways = other.ways;
-        self.live = other.live;
     }
 
     // The player's own stones, of which these are all.
@@ -134,23 +129,24 @@ impl Links {
         room: &mut Room,
     ) -> Result<(), AllocError> {
         self.queue = Queue::none();
-        self.pairs.fill(Held::none());
+        self.pairs.clear();
         self.entries.clear();
-        self.entries.reserve(before.entries.len())?;
+        // With some that come, so that they need not be moved.
+        let room_for = before.entries.len() / 4 * 5;
+        self.entries.reserve(room_for.min(MOST_ENTRIES))?;
         room.changed.clear();
         room.gone.clear();
-        self.live = 0;
         for entry in before.entries.iter() {
+            if entry.state == State::GivenUp {
+                continue;
+            }
             if change.touches(entry) {
                 self.leave_out(entry, change, room)?;
                 continue;
             }
-            if let Some(held) = self.pairs.get_mut(entry.pair.place()) {
-                let number = self.entries.len().min(usize::from(u16::MAX)) as u16;
-                held.enlist(number, entry.size);
-                self.entries.push(*entry)?;
-                self.live = self.entries.len();
-            }
+            let number = self.entries.len().min(usize::from(u16::MAX)) as u16;
+            self.pairs.enlist(number, entry);
+            self.entries.push(*entry)?;
         }
         Ok(())
     }
@@ -165,10 +161,8 @@ impl Links {
         room.gone.push(entry.pair)?;
         if !change.loses(entry) {
             room.changed.push(*entry)?;
-        } else if let Some(held) = self.pairs.get_mut(entry.pair.place())
-            && !change.ends_at(entry.pair)
-        {
-            held.lose();
+        } else if !change.ends_at(entry.pair) {
+            self.pairs.lose(entry.pair);
         }
         Ok(())
     }

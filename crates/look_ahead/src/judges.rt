@@ -151,7 +151,7 @@ impl Judge {
             return self.fresh.verdict(before, board, mover, &mut self.room);
         }
         self.fresh.load(&job.board)?;
-        self.before.keep(&self.fresh)?;
+        self.before.keep(&mut self.fresh);
         self.fresh
             .verdict(&self.before, board, mover, &mut self.room)
     }
@@ -161,7 +161,7 @@ impl Judge {
         self.fresh.of(mover).draw(&mut self.own);
         self.fresh.of(mover.other()).draw(&mut self.other);
         self.find_kids(must)?;
-        self.after.keep(&self.fresh)?;
+        self.after.keep(&mut self.fresh);
         Ok(Finding {
             board: *board,
             verdict: Verdict::Among(must),

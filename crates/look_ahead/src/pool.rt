@@ -28,10 +28,6 @@ pub(crate) enum Verdict {
 pub(crate) struct Both {
     black: Links,
     white: Links,
-    // The node whose board it is.
-    node: u32,
-    // When they were used last.
-    used: u64,
 }
 
 impl Both {
@@ -40,8 +36,6 @@ impl Both {
         Ok(Both {
             black: Links::make(alloc)?,
             white: Links::make(alloc)?,
-            node: NOWHERE,
-            used: 0,
         })
     }
 
@@ -50,16 +44,13 @@ impl Both {
         Both {
             black: Links::bare(alloc),
             white: Links::bare(alloc),
-            node: NOWHERE,
-            used: 0,
         }
     }
 
-    /// Makes these a copy of others.
-    pub(crate) fn keep(&mut self, other: &Both) -> Result<(), Memory> {
-        self.black.keep(&other.black)?;
-        self.white.keep(&other.white)?;
-        Ok(())
+    /// Makes these others, which are good for nothing then but to be made anew.
+    pub(crate) fn keep(&mut self, other: &mut Both) {
+        self.black.keep(&mut other.black);
+        self.white.keep(&mut other.white);
     }
 
     /// A player's.
@@ -117,10 +108,30 @@ impl Both {
     }
 }
 
+// Whose links a slot has.
+#[derive(Clone, Copy)]
+struct Mark {
+    node: u32,
+    // When they were used last.
+    used: u64,
+}
+
+impl Mark {
+    // Nobody's.
+    fn none() -> Mark {
+        Mark {
+            node: NOWHERE,
+            used: 0,
+        }
+    }
+}
+
 /// What is kept.
 #[derive(Drop)]
 pub(crate) struct Pool {
     kept: Vec<Both>,
+    // Of each slot, apart from the links, so that the oldest one is found soon.
+    marks: Vec<Mark>,
     clock: u64,
 }
 
@@ -129,24 +140,22 @@ impl Pool {
     pub(crate) fn make(alloc: Global) -> Pool {
         Pool {
             kept: Vec::new(alloc),
+            marks: Vec::new(alloc),
             clock: 0,
         }
     }
 
     /// Says that nothing that is kept is of a node.
     pub(crate) fn clear(&mut self) {
-        for both in self.kept.iter_mut() {
-            both.node = NOWHERE;
-            both.used = 0;
-        }
+        self.marks.fill(Mark::none());
     }
 
     /// Says of which node from now on each is what is kept.
     pub(crate) fn rename(&mut self, places: &[u32]) {
-        for both in self.kept.iter_mut() {
-            both.node = places.get(both.node as usize).copied().unwrap_or(NOWHERE);
-            if both.node == NOWHERE {
-                both.used = 0;
+        for mark in self.marks.iter_mut() {
+            mark.node = places.get(mark.node as usize).copied().unwrap_or(NOWHERE);
+            if mark.node == NOWHERE {
+                mark.used = 0;
             }
         }
     }
@@ -158,12 +167,12 @@ impl Pool {
 
     /// The slot with the links of a node, which were kept in this one. `None` if they are gone.
     pub(crate) fn slot_of(&mut self, node: u32, slot: usize) -> Option<usize> {
-        let both = self.kept.get_mut(slot)?;
-        if both.node != node {
+        let mark = self.marks.get_mut(slot)?;
+        if mark.node != node {
             return None;
         }
         self.clock = self.clock.saturating_add(1);
-        both.used = self.clock;
+        mark.used = self.clock;
         Some(slot)
     }
 
@@ -177,12 +186,15 @@ impl Pool {
         self.clock = self.clock.saturating_add(1);
         if self.kept.len() < MOST_KEPT {
             self.kept.push(Both::bare(alloc))?;
+            self.marks.push(Mark::none())?;
         }
         let slot = self.oldest();
-        if let Some(kept) = self.kept.get_mut(slot) {
+        if let Some(kept) = self.kept.get_mut(slot)
+            && let Some(mark) = self.marks.get_mut(slot)
+        {
             swap(kept, both);
-            kept.node = node;
-            kept.used = self.clock;
+            mark.node = node;
+            mark.used = self.clock;
         }
         Ok(slot)
     }
@@ -191,9 +203,9 @@ impl Pool {
     fn oldest(&self) -> usize {
         let mut oldest = 0;
         let mut least = u64::MAX;
-        for (slot, both) in self.kept.iter().enumerate() {
-            if both.used < least {
-                least = both.used;
+        for (slot, mark) in self.marks.iter().enumerate() {
+            if mark.used < least {
+                least = mark.used;
                 oldest = slot;
             }
         }
