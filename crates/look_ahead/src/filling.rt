@@ -1,7 +1,7 @@
 //! Dead and captured cells are filled with stones: whoever wins with them wins without.
 
 use hex_board::Board;
-use hex_cells::{Cell, Colour, MOST_CELLS, Size};
+use hex_cells::{Cell, CellSet, Colour, MOST_CELLS, Size};
 
 // The places around a cell, one after the other: how many columns and rows further, and one more.
 const AROUND: [(u32, u32); 6] = [(2, 1), (1, 2), (0, 2), (0, 1), (1, 0), (2, 0)];
@@ -124,6 +124,9 @@ fn fill_once(board: &mut Board) {
             return;
         };
         rest = rest.without(cell);
+        if is_away(board, cell) {
+            continue;
+        }
         let ring = Ring::of(board, cell);
         if ring.is_dead() {
             put(board, Colour::Black, cell);
@@ -131,6 +134,13 @@ fn fill_once(board: &mut Board) {
             fill_captured(board, cell, ring);
         }
     }
+}
+
+// Whether a cell lies by no stone, and isn't one of the two corners with two neighbours. Then at
+// most two places around it are held: so it is neither dead nor captured.
+fn is_away(board: &Board, cell: Cell) -> bool {
+    let around = CellSet::none().with(cell).around(board.size());
+    3 <= around.count() && around.inside(board.empties())
 }
 
 // Fills an empty cell, and one of those after it beside it, if a player captured both: if the other
