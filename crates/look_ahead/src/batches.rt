@@ -2,9 +2,9 @@
 
 ghost use Rattle.std.specs.Prelude.{◌≡◌, ◌+◌, ◌≤◌, length};
 
-use super::judges::{Finding, Job, Judge};
+use super::judges::{Case, Finding, Job, Judge};
 use super::nodes::{AWAITED, LookNode, NOWHERE, State};
-use super::pool::{Pool, Verdict};
+use super::pool::Pool;
 use super::refusals::Memory;
 use super::searches::{End, Fresh, Look};
 use hex_cells::{Colour, MOST_CELLS};
@@ -24,14 +24,14 @@ impl Look {
         ensures keeps { length self.old.nodes.items ≤ length self.new.nodes.items }
     {
         let count = self.go_down(colour, most);
-        judge_all(rt, self.workers, &mut self.judges, count, &self.pool);
+        judge_all(rt, &mut self.judges, count, &self.pool);
         'results: for number in 0..count.min(most) {
             self.take(alloc, number)?;
         }
         Ok(())
     }
 
-    // Makes at most so many walks, and gives each that ends at no node that is known to a judge:
+    // Makes at most so many walks, and makes a case of each that ends at no node that is known:
     // how many.
     fn go_down(&mut self, colour: Colour, most: usize) -> usize
         ensures { length self.new.nodes.items ≡ length self.old.nodes.items }
@@ -61,7 +61,7 @@ impl Look {
         self.up(place);
     }
 
-    // Gives the board after a kid without a node to the judge with this number.
+    // Gives the board after a kid without a node to the case with this number.
     fn give(&mut self, number: usize, fresh: &Fresh)
         ensures { length self.new.nodes.items ≡ length self.old.nodes.items }
     {
@@ -76,8 +76,8 @@ impl Look {
             board: node.board,
             slot: self.pool.slot_of(fresh.above, node.slot),
         };
-        if let Some(judge) = self.judges.get_mut(number) {
-            judge.give(job);
+        if let Some(case) = case_of(&mut self.judges, number) {
+            case.give(job);
         }
         if let Some(kid) = self.kids.get_mut(fresh.number as usize) {
             kid.node = AWAITED;
@@ -99,19 +99,19 @@ impl Look {
         }
     }
 
-    // Takes what the judge with this number found: a new node, whose value goes up.
+    // Takes what was found in the case with this number: a new node, whose value goes up.
     fn take(&mut self, alloc: Global, number: usize) -> Result<(), Memory>
         ensures few { length self.new.nodes.items ≤ length self.old.nodes.items + 1 }
         ensures keeps { length self.old.nodes.items ≤ length self.new.nodes.items }
     {
-        let Some(judge) = self.judges.get_mut(number) else {
+        let Some(case) = case_of(&mut self.judges, number) else {
             return Ok(());
         };
-        let Some((job, finding)) = judge.take()? else {
+        let Some((job, finding)) = case.take()? else {
             return Ok(());
         };
         if job.slot.is_none() {
-            self.pool.keep(alloc, judge.before(), job.above)?;
+            self.pool.keep(alloc, case.before(), job.above)?;
         }
         let place = number_of(self.nodes.len());
         let node = self.node_of(alloc, number, &finding, job.above, place)?;
@@ -123,7 +123,7 @@ impl Look {
         Ok(())
     }
 
-    /// The node that the judge with this number found, below another one. It gets this place.
+    /// The node that was found in the case with this number, below another one. It gets this place.
     pub(super) fn node_of(
         &mut self,
         alloc: Global,
@@ -134,10 +134,10 @@ impl Look {
     ) -> Result<LookNode, Memory>
         ensures { self.new.nodes ≡ self.old.nodes }
     {
-        match finding.verdict {
-            Verdict::Won => Ok(LookNode::decided(&finding.board, State::Won, above)),
-            Verdict::Lost => Ok(LookNode::decided(&finding.board, State::Lost, above)),
-            Verdict::Among(_) => self.open_node(alloc, number, finding, above, place),
+        match finding.state {
+            State::Won => Ok(LookNode::decided(&finding.board, State::Won, above)),
+            State::Lost => Ok(LookNode::decided(&finding.board, State::Lost, above)),
+            State::Open => self.open_node(alloc, number, finding, above, place),
         }
     }
 
@@ -154,31 +154,32 @@ impl Look {
     {
         let first = number_of(self.kids.len());
         let mut slot = usize::MAX;
-        if let Some(judge) = self.judges.get_mut(number) {
-            slot = self.pool.keep(alloc, judge.after(), place)?;
-            self.kids.extend_from_slice(judge.kids())?;
+        if let Some(case) = case_of(&mut self.judges, number) {
+            slot = self.pool.keep(alloc, case.after(), place)?;
+            self.kids.extend_from_slice(case.kids())?;
         }
         let kids = first..number_of(self.kids.len());
         Ok(LookNode::open(&finding.board, finding.value, kids, slot, above))
     }
 }
 
-// Lets so many judges do their jobs, in as many threads as there are workers. Each writes what it
-// has alone, and reads what is kept: so it finds the same however the threads run.
-fn judge_all<R: Threads + Sync>(
-    rt: &R,
-    workers: u32,
-    judges: &mut [Judge],
-    count: usize,
-    pool: &Pool,
-) {
-    let count = count.min(judges.len());
-    let (busy, _idle) = judges.split_at_mut(count);
+// The case with this number. Those that follow one another are other judges'.
+fn case_of(judges: &mut [Judge], number: usize) -> Option<&mut Case> {
+    let count = judges.len().max(1);
+    judges.get_mut(number % count)?.case(number / count)
+}
+
+// Has the first so many cases judged, by each judge in a thread of its own. Each writes what it has
+// alone, and reads what is kept: so it finds the same however the threads run.
+fn judge_all<R: Threads + Sync>(rt: &R, judges: &mut [Judge], count: usize, pool: &Pool) {
+    let threads = count.min(judges.len());
+    let each = count.div_ceil(threads.max(1));
+    let (busy, _idle) = judges.split_at_mut(threads);
     for_each_mut(
         rt,
         busy,
-        workers.max(1) as usize,
-        &|_number, judge| { judge.work(pool) },
+        threads.max(1),
+        &|_number, judge| { judge.work(each, pool) },
     );
 }
 

@@ -1,7 +1,7 @@
 //! How a board is judged: by the links and circuits of both players, in any thread.
 
 use super::filling::filled;
-use super::nodes::{Kid, NOWHERE};
+use super::nodes::{Kid, NOWHERE, State};
 use super::pool::{Both, Pool, Verdict};
 use super::refusals::Memory;
 use super::values::{prior_of, value_of, worth};
@@ -28,61 +28,51 @@ pub(crate) struct Job {
 #[derive(Clone, Copy)]
 pub(crate) struct Finding {
     pub board: Board,
-    pub verdict: Verdict,
+    pub state: State,
     /// If neither player is known to win.
     pub value: u64,
 }
 
-/// Judges one board after the other. It has memory of its own, which is used again.
+impl Finding {
+    // What is known of a board that is won or lost.
+    fn decided(board: Board, state: State) -> Finding {
+        Finding {
+            board,
+            state,
+            value: 0,
+        }
+    }
+}
+
+/// A board that is judged, and what that left. It has memory of its own, which is used again.
 #[derive(Drop)]
-pub(crate) struct Judge {
-    own: Circuit,
-    other: Circuit,
-    // The links of the board.
-    fresh: Both,
-    // Copies that can be kept: of those of an open board, and of those of the node above, where
-    // they had to be made anew.
+pub(crate) struct Case {
+    // Links that can be kept: those of an open board, and those of the node above, where they had
+    // to be made anew.
     after: Both,
     before: Both,
-    room: Room,
     // The kids of the board.
     kids: Vec<Kid>,
     job: Option<Job>,
     found: Result<Option<Finding>, Memory>,
 }
 
-impl Judge {
-    /// One without a job.
-    pub(crate) fn make(alloc: Global) -> Result<Judge, Memory> {
-        let own = Circuit::make(alloc)?;
-        let other = Circuit::make(alloc)?;
-        Ok(Judge {
-            own,
-            other,
-            fresh: Both::make(alloc)?,
+impl Case {
+    // One without a job.
+    fn make(alloc: Global) -> Case {
+        Case {
             after: Both::bare(alloc),
             before: Both::bare(alloc),
-            room: Room::make(alloc),
             kids: Vec::new(alloc),
             job: None,
             found: Ok(None),
-        })
+        }
     }
 
     /// Gives it a job.
     pub(crate) fn give(&mut self, job: Job) {
         self.job = Some(job);
         self.found = Ok(None);
-    }
-
-    /// Does its job, if it has one, by the links that are kept.
-    pub(crate) fn work(&mut self, pool: &Pool) {
-        if let Some(job) = self.job {
-            self.found = match self.judged(&job, pool) {
-                Ok(finding) => Ok(Some(finding)),
-                Err(refused) => Err(refused),
-            };
-        }
     }
 
     /// The job that was done, and what was found. It has none from then on.
@@ -95,12 +85,12 @@ impl Judge {
         }
     }
 
-    /// A copy of the links of the board that was judged last, if it is open.
+    /// The links of the board that was judged last, if it is open.
     pub(crate) fn after(&mut self) -> &mut Both {
         &mut self.after
     }
 
-    /// A copy of the links of the node above, if they were made anew.
+    /// The links of the node above, if they were made anew.
     pub(crate) fn before(&mut self) -> &mut Both {
         &mut self.before
     }
@@ -109,11 +99,92 @@ impl Judge {
     pub(crate) fn kids(&self) -> &[Kid] {
         &self.kids
     }
+}
 
-    /// Judges the board of the root, on which the player places on one of these cells. Cells are
-    /// filled if nobody is joined by that.
+/// Judges the boards of its cases, one after the other. What it needs for that is used again, so
+/// that the processor has it at hand.
+#[derive(Drop)]
+pub(crate) struct Judge {
+    desk: Desk,
+    cases: Vec<Case>,
+}
+
+impl Judge {
+    /// One with so many cases without a job.
+    pub(crate) fn make(alloc: Global, cases: usize) -> Result<Judge, Memory> {
+        let mut judge = Judge {
+            desk: Desk::make(alloc)?,
+            cases: Vec::new(alloc),
+        };
+        for _case in 0..cases {
+            judge.cases.push(Case::make(alloc))?;
+        }
+        Ok(judge)
+    }
+
+    /// The case with this number.
+    pub(crate) fn case(&mut self, number: usize) -> Option<&mut Case> {
+        self.cases.get_mut(number)
+    }
+
+    /// Does the jobs of the first so many cases, by the links that are kept.
+    pub(crate) fn work(&mut self, count: usize, pool: &Pool) {
+        for case in self.cases.iter_mut().take(count) {
+            self.desk.work(case, pool);
+        }
+    }
+
+    /// Judges the board of the root in its first case.
     pub(crate) fn judged_root(
         &mut self,
+        board: &Board,
+        mover: Colour,
+        must: CellSet,
+    ) -> Result<Finding, Memory> {
+        match self.cases.first_mut() {
+            Some(case) => self.desk.judged_root(case, board, mover, must),
+            None => Err(Memory),
+        }
+    }
+}
+
+// What a board is judged with.
+#[derive(Drop)]
+struct Desk {
+    own: Circuit,
+    other: Circuit,
+    // The links of the board.
+    fresh: Both,
+    room: Room,
+}
+
+impl Desk {
+    fn make(alloc: Global) -> Result<Desk, Memory> {
+        let own = Circuit::make(alloc)?;
+        let other = Circuit::make(alloc)?;
+        Ok(Desk {
+            own,
+            other,
+            fresh: Both::make(alloc)?,
+            room: Room::make(alloc),
+        })
+    }
+
+    // Does the job of a case, if it has one.
+    fn work(&mut self, case: &mut Case, pool: &Pool) {
+        if let Some(job) = case.job {
+            case.found = match self.judged(case, &job, pool) {
+                Ok(finding) => Ok(Some(finding)),
+                Err(refused) => Err(refused),
+            };
+        }
+    }
+
+    // Judges the board of the root, on which the player places on one of these cells. Cells are
+    // filled if nobody is joined by that.
+    fn judged_root(
+        &mut self,
+        case: &mut Case,
         board: &Board,
         mover: Colour,
         must: CellSet,
@@ -123,27 +194,30 @@ impl Judge {
             now = *board;
         }
         self.fresh.load(&now)?;
-        self.opened(&now, mover, must)
+        self.opened(case, &now, mover, must)
     }
 
     // Judges the board of a job.
-    fn judged(&mut self, job: &Job, pool: &Pool) -> Result<Finding, Memory> {
+    fn judged(&mut self, case: &mut Case, job: &Job, pool: &Pool) -> Result<Finding, Memory> {
         let board = filled(&with_stone(&job.board, job.mover, job.cell));
         let mover = job.mover.other();
-        let verdict = self.verdict(job, pool, &board)?;
+        let verdict = self.verdict(case, job, pool, &board)?;
         match verdict {
-            Verdict::Among(must) => self.opened(&board, mover, must),
-            _ => Ok(Finding {
-                board,
-                verdict,
-                value: 0,
-            }),
+            Verdict::Among(must) => self.opened(case, &board, mover, must),
+            Verdict::Won => Ok(Finding::decided(board, State::Won)),
+            Verdict::Lost => Ok(Finding::decided(board, State::Lost)),
         }
     }
 
     // What is known of the board of a job, by the links of the node above. They are made anew if
     // they are gone.
-    fn verdict(&mut self, job: &Job, pool: &Pool, board: &Board) -> Result<Verdict, Memory> {
+    fn verdict(
+        &mut self,
+        case: &mut Case,
+        job: &Job,
+        pool: &Pool,
+        board: &Board,
+    ) -> Result<Verdict, Memory> {
         let mover = job.mover.other();
         if let Some(slot) = job.slot
             && let Some(before) = pool.at(slot)
@@ -151,27 +225,33 @@ impl Judge {
             return self.fresh.verdict(before, board, mover, &mut self.room);
         }
         self.fresh.load(&job.board)?;
-        self.before.keep(&mut self.fresh);
+        case.before.keep(&mut self.fresh);
         self.fresh
-            .verdict(&self.before, board, mover, &mut self.room)
+            .verdict(&case.before, board, mover, &mut self.room)
     }
 
     // Judges an open board by the circuits of the fresh links, with kids on these cells.
-    fn opened(&mut self, board: &Board, mover: Colour, must: CellSet) -> Result<Finding, Memory> {
+    fn opened(
+        &mut self,
+        case: &mut Case,
+        board: &Board,
+        mover: Colour,
+        must: CellSet,
+    ) -> Result<Finding, Memory> {
         self.fresh.of(mover).draw(&mut self.own);
         self.fresh.of(mover.other()).draw(&mut self.other);
-        self.find_kids(must)?;
-        self.after.keep(&mut self.fresh);
+        self.find_kids(must, &mut case.kids)?;
+        case.after.keep(&mut self.fresh);
         Ok(Finding {
             board: *board,
-            verdict: Verdict::Among(must),
+            state: State::Open,
             value: value_of(&self.own, &self.other),
         })
     }
 
     // Finds the kids on these cells.
-    fn find_kids(&mut self, cells: CellSet) -> Result<(), Memory> {
-        self.kids.clear();
+    fn find_kids(&self, cells: CellSet, kids: &mut Vec<Kid>) -> Result<(), Memory> {
+        kids.clear();
         let all = self.worth_of(cells);
         let mut rest = cells;
         for _step in 0..MOST_CELLS {
@@ -180,7 +260,7 @@ impl Judge {
             };
             rest = rest.without(cell);
             let prior = prior_of(worth(&self.own, &self.other, cell), all);
-            self.kids.push(Kid {
+            kids.push(Kid {
                 cell,
                 prior,
                 node: NOWHERE,

@@ -19,7 +19,7 @@
 //! the value, from its own side.
 //!
 //! **Batches.** With W workers up to 2·W walks, and at most 64, go down one after the other. Their
-//! boards are judged in W threads, each by a *judge*, and then they go up in the order in which
+//! boards are judged in W threads, in each by a *judge*, and then they go up in the order in which
 //! they went down. Until then each counts as lost for who moves by it, so that the next ones
 //! go elsewhere, and none goes to a kid that is being judged. A batch of one is a walk by itself.
 //!
@@ -42,7 +42,7 @@
 //! **Limits.** As many nodes as the budget. Each takes its own size and up to 121 kids of 12 bytes:
 //! before the first walk, for the first 10,000 of them. The links of the 320 nodes that were used
 //! last are kept, in at most 256 MB (130 MB on a board of 11 by 11), and made anew where they are
-//! gone. Each board of a batch takes up to 2 MB for the links that are made. In the end each cell
+//! gone. Each thread takes up to 2 MB for the links that are made. In the end each cell
 //! that is taken for won or lost has one report of H-search, one cell after the other. All of that
 //! stays for the next search.
 //!

@@ -44,10 +44,10 @@ pub struct Look {
     pub(super) kids: Vec<Kid>,
     // The links of nodes.
     pub(super) pool: Pool,
-    // How many threads judge.
-    pub(super) workers: u32,
-    // One for each board of a batch.
+    // One for each thread.
     pub(super) judges: Vec<Judge>,
+    // How many boards a batch has at most.
+    pub(super) boards: usize,
     // What a later search begins with: the last root, if nothing came between.
     pub(super) last: Option<Last>,
     // Room for what is kept: where each node is from now on, and the kids of the root that have
@@ -79,16 +79,19 @@ pub(super) enum End {
 impl Look {
     /// A search without nodes, by so many workers.
     pub fn make(alloc: Global, workers: u32) -> Result<Look, Memory> {
+        let boards = boards_of(workers);
+        let threads = workers.min(boards).max(1);
+        let cases = boards.div_ceil(threads) as usize;
         let mut judges = Vec::new(alloc);
-        for _board in 0..boards_of(workers) {
-            judges.push(Judge::make(alloc)?)?;
+        for _thread in 0..threads {
+            judges.push(Judge::make(alloc, cases)?)?;
         }
         Ok(Look {
             nodes: Vec::new(alloc),
             kids: Vec::new(alloc),
             pool: Pool::make(alloc),
-            workers: workers.max(1),
             judges,
+            boards: boards as usize,
             last: None,
             places: Vec::new(alloc),
             tops: Vec::new(alloc),
@@ -165,8 +168,8 @@ impl Look {
         Ok(())
     }
 
-    // How many boards are judged next: one for each judge, but no more nodes than the budget has,
-    // and none if the root is decided.
+    // How many boards are judged next: as many as a batch has, but no more nodes than the budget
+    // has, and none if the root is decided.
     fn width(&self, budget: u32) -> usize
         ensures { 0 < result → length self.now.nodes.items + result ≤ budget }
     {
@@ -174,7 +177,7 @@ impl Look {
             return 0;
         }
         let left = (budget as usize).saturating_sub(self.nodes.len());
-        left.min(self.judges.len())
+        left.min(self.boards)
     }
 
     /// Down to where a walk ends.
@@ -244,7 +247,7 @@ impl Look {
     }
 }
 
-// How many boards a batch of so many workers has.
+// How many boards a batch of so many workers has: at least 1.
 fn boards_of(workers: u32) -> u32 {
     if workers <= 1 {
         1
