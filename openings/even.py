@@ -20,7 +20,8 @@ import hexd
 
 HEAD = "size", "moves", "winner", "lines", "worth", "black", "games"
 SIZES = range(3, 12)
-LARGEST_PROVED = max(opening.size for opening in listed())
+# The largest size of which each opening is proved.
+LARGEST_PROVED = max(size for size in SIZES if listed().keys() >= set(openings_of(size)))
 OF_A_WINNER, OF_A_SIZE = 2, 6
 # So many nodes each first stone gets; games are played from so many of those nearest to even.
 NODES, EVEN, TRIED = 150, 500, 8
