@@ -400,9 +400,9 @@ class Choices(Pages):
             got = browser.run("return isSwapBetter(...arguments)", {**said, **other}, {"share": share, "nodes": 400})
             self.assertEqual(want, got, (other, share))
         self.assertTrue(browser.run("return isSwapBetter(...arguments)", said))
-        browser = self.start("8,e4")
+        browser = self.start("8,f3")
         browser.click("#go")
-        self.soon(["e4", "swap"], self.moves)
+        self.soon(["f3", "swap"], self.moves)
         self.soon_in(", by its guess of this opening.", "#words")
 
     def test_hexd_opens_near_even(self):

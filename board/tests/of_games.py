@@ -532,7 +532,8 @@ class Lasting(Pages):
             browser.press("#stop")
             browser.run("window.goOn()")
             browser.ready()
-            self.assertIn("look-ahead of 2,000 nodes", browser.text("#strength-words"))
+            nodes = settings.strength_options("strong", 8)["look"]
+            self.assertIn(f"look-ahead of {nodes:,} nodes", browser.text("#strength-words"))
             self.assertNotIn("as the last search went", browser.text("#strength-words"))
             self.assertEqual(1, len(server.engines()))
             self.browser.faults()

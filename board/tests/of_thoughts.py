@@ -194,9 +194,9 @@ class Openings(Pages):
         """Each opening that has a certificate is named by its file, and by no other."""
         browser, names = self.start("3"), {file.name for file in (ROOT / "openings").glob("*.cert.xz")}
         named = browser.run("""return arguments[0].flatMap(size => verticesOf(size).map(vertex => fileOfOpening(size, vertex)))""",
-                            list(range(3, 8)))
+                            list(range(3, 9)))
         self.assertEqual(names, names & set(named))
-        self.assertEqual(sum((size * size + 1) // 2 for size in range(3, 8)), len(set(named)))
+        self.assertEqual(sum((size * size + 1) // 2 for size in range(3, 9)), len(set(named)))
 
     def test_the_map_on_an_empty_board(self):
         browser = self.start("3")
