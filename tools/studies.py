@@ -63,6 +63,11 @@ class Study:
     def pairs(self):
         return self.matches or list(itertools.combinations(self.settings, 2))
 
+    def is_paired(self):
+        """Whether there are several matches, and no setting stands in two."""
+        names = [name for pair in self.pairs() for name in pair]
+        return len(names) > 2 and len(set(names)) == len(names)
+
     def count(self):
         """How many blocks the study has."""
         return len(self.pairs()) * self.blocks
