@@ -1,12 +1,12 @@
--- What plans and good turns say of winning: certified moves win, and moves outside a threat lose.
+-- What good turns say of winning: certified moves win, and moves outside a threat lose.
 use Rattle.std.proofs.Common.{◌≡◌, ℕ, [], List, Bool, true, false, Some, refl, sym, ◌∙◌, subst}
 use Rattle.std.specs.List.{slice_get}
 use Rattle.hex_cells.specs.declared.colours.Colour.{Colour}
 use Rattle.hex_board.specs.Positions.{Position}
 use Rattle.tree_words.specs.declared.settings.Knobs.{Knobs}
 use Rattle.hex_plan.specs.Good.{FollowsPlan, IsGood}
-use Rattle.hex_plan.specs.Laws.{HoldsOfPlans, IsCertified, LosesAsPlanned, LosesOutsideCarriers}
-use Rattle.hex_plan.specs.Laws.{LosesOutsideThreats, LosesWhereLost, WinsAsPlanned}
+use Rattle.hex_plan.specs.Laws.{IsCertified, LosesAsPlanned, LosesOutsideCarriers}
+use Rattle.hex_plan.specs.Laws.{LosesOutsideThreats, LosesWhereLost}
 use Rattle.hex_plan.specs.Plans.{IsCertifiedThreat, IsPlan, IsPlannedFor, IsWin, IsWinBy}
 use Rattle.hex_plan.specs.Turns.{TurnData}
 use Rattle.hex_plan.specs.declared.plans.Planned.{Planned}
@@ -24,15 +24,12 @@ win_by : (knobs : Knobs) (means : Means) (t : TurnData) (plan : Plan)
 win_by knobs means t (Win cert cell) f w = sym f.2
 win_by knobs means t (Search threats allowed lost) f w = absurd w
 
-pub plan_wins : HoldsOfPlans WinsAsPlanned
-plan_wins board player means p h k w =
-    let (cert, is, won) = planned_win board player means p k h w in won.wins
-
 pub is_certified : (knobs : Knobs) (means : Means) (t : TurnData) → IsGood knobs means t
     → IsCertified t
-is_certified knobs means t g w
-    = plan_wins t.board t.player means t.planned g.planned t.cell
-    (win_by knobs means t t.planned.plan g.follows w)
+is_certified knobs means t g w =
+    let won = win_by knobs means t t.planned.plan g.follows w in
+    let (cert, is, wins) = planned_win t.board t.player means t.planned t.cell g.planned won in
+    wins.wins
 
 -- ---- searches
 
@@ -51,12 +48,10 @@ loses_outside board player false p h threats allowed lost q i threat s k empty o
         let at : slice_get [] i ≡ Some threat
         = subst (λ (v : List Threat). slice_get v i ≡ Some threat) empty s in absurd (cc)
 
-pub plan_loses_outside : HoldsOfPlans LosesOutsideCarriers
-plan_loses_outside board player means p h = loses_outside board player means.hsearch p h.plan
-
 pub outside_loses : (knobs : Knobs) (means : Means) (t : TurnData) → IsGood knobs means t
     → LosesOutsideThreats t
-outside_loses knobs means t g = plan_loses_outside t.board t.player means t.planned g.planned
+outside_loses knobs means t g
+    = loses_outside t.board t.player means.hsearch t.planned g.planned.plan
 
 loses_lost : (board : Position) (player : Colour) (hsearch : Bool) (p : Planned)
     → IsPlannedFor board player hsearch p → LosesAsPlanned board player p.plan
@@ -68,9 +63,6 @@ loses_lost board player false p h threats allowed q k empty
     free : (threats : List Threat) (a b : ℕ) → Search [] a false ≡ Search threats b true → ⊥
     free threats a b e = absurd (cc)
 
-pub plan_loses : HoldsOfPlans LosesAsPlanned
-plan_loses board player means p h = loses_lost board player means.hsearch p h.plan
-
 pub lost_loses : (knobs : Knobs) (means : Means) (t : TurnData) → IsGood knobs means t
     → LosesWhereLost t
-lost_loses knobs means t g = plan_loses t.board t.player means t.planned g.planned
+lost_loses knobs means t g = loses_lost t.board t.player means.hsearch t.planned g.planned.plan

@@ -1,5 +1,5 @@
--- How to read the proof of `hex_plan::plan`, `plans_tell_who_wins`, `certified_moves_win`: what is
--- planned, and that certified moves win.
+-- How to read the proof of `hex_plan::plan` and `certified_moves_win`: what is planned, and that
+-- certified moves win.
 -- 1. What is claimed: src/planning.rt, `plan`, and laws.rt; specs/Plans.antt (`IsPlanned`),
 --    Resting.antt (`RestsOn`), Turns.antt, Good.antt, Laws.antt. Behind these stand the report (hsearch, specs/Closed.antt),
 --    the cut (win_cert, specs/Cuts.antt) and winning (hex_board, specs/Wins.antt).

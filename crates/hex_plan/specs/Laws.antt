@@ -1,5 +1,5 @@
--- What the laws of plans and of good turns say: certified moves win, moves outside a threat lose,
--- and one worker decides.
+-- What the laws of good turns say: certified moves win, moves outside a threat lose, and one worker
+-- decides.
 use Rattle.std.specs.Prelude.{◌≡◌, ℕ, Bool, true, false, List, Some}
 use Rattle.std.specs.List.{slice_get}
 use Rattle.hex_cells.specs.Sets.{has}
@@ -7,21 +7,16 @@ use Rattle.hex_cells.specs.declared.colours.Colour.{Colour}
 use Rattle.hex_board.specs.Positions.{Position, is_empty_at}
 use Rattle.tree_words.specs.declared.settings.Knobs.{Knobs}
 use Rattle.hex_plan.specs.Good.{IsGood}
-use Rattle.hex_plan.specs.Plans.{IsPlanned, IsWin, IsWinBy, LosesBy, WinsBy}
+use Rattle.hex_plan.specs.Plans.{IsWin, LosesBy, WinsBy}
 use Rattle.hex_plan.specs.Reports.{reported_rows, sequential_rows}
 use Rattle.hex_plan.specs.TurnTexts.{texts_of}
 use Rattle.hex_plan.specs.Turns.{TurnData}
 use Rattle.hex_plan.specs.declared.settings.Means.{Means}
-use Rattle.hex_plan.specs.declared.plans.Planned.{Planned}
 use Rattle.hex_plan.specs.declared.threats.Threat.{Threat}
 use Rattle.hex_plan.specs.declared.types.Plan.{Plan}
 use Rattle.hex_plan.specs.declared.types.Plan.TheVariants.{Search}
 
 -- ---- plans
-
--- if the plan is a win, its cell wins
-abbrev pub WinsAsPlanned : Position → Colour → Plan → Type 0
-WinsAsPlanned board player plan = (k : ℕ) → IsWinBy plan k → WinsBy board player k
 
 -- each move outside the carrier of one of the plan's threats loses
 abbrev pub LosesOutsideCarriers : Position → Colour → Plan → Type 0
@@ -36,11 +31,6 @@ abbrev pub LosesAsPlanned : Position → Colour → Plan → Type 0
 LosesAsPlanned board player plan = (threats : List Threat) (allowed : ℕ)
     → plan ≡ Search threats allowed true
     → (k : ℕ) → is_empty_at board k ≡ true → LosesBy board player k
-
--- of each plan for a player on a board, with whatever means, this holds
-abbrev pub HoldsOfPlans : (Position → Colour → Plan → Type 0) → Type 0
-HoldsOfPlans Holds = (board : Position) (player : Colour) (means : Means) (p : Planned)
-    → IsPlanned board player means p → Holds board player p.plan
 
 -- ---- turns
 

@@ -1,24 +1,12 @@
-//! Laws of plans and of good turns.
+//! Laws of good turns.
 
 ghost use Rattle.std.specs.Prelude.{◌≡◌, ℕ};
 ghost use Rattle.tree_words.specs.declared.settings.Knobs.{Knobs};
 ghost use Rattle.hex_plan.specs.Good.{IsGood};
-ghost use Rattle.hex_plan.specs.Laws.{AreDetermined, AreReportedInSequence, HoldsOfPlans};
-ghost use Rattle.hex_plan.specs.Laws.{IsCertified, LosesAsPlanned};
-ghost use Rattle.hex_plan.specs.Laws.{LosesOutsideCarriers, LosesOutsideThreats, LosesWhereLost};
-ghost use Rattle.hex_plan.specs.Laws.{WinsAsPlanned};
+ghost use Rattle.hex_plan.specs.Laws.{AreDetermined, AreReportedInSequence, IsCertified};
+ghost use Rattle.hex_plan.specs.Laws.{LosesOutsideThreats, LosesWhereLost};
 ghost use Rattle.hex_plan.specs.Turns.{TurnData};
 ghost use Rattle.hex_plan.specs.declared.settings.Means.{Means};
-
-/// A law, with nothing to run, of what [`plan`](super::plan) answers, whoever asks for it. If it is
-/// a win, the player wins after its cell against every reply. After a move outside the carrier of
-/// one of its threats, and, if it says that the board is lost, after every move, the other
-/// player wins with himself to move.
-pub fn plans_tell_who_wins()
-    ensures wins { HoldsOfPlans WinsAsPlanned }
-    ensures outside { HoldsOfPlans LosesOutsideCarriers }
-    ensures lost { HoldsOfPlans LosesAsPlanned }
-{}
 
 /// A law, with nothing to run: if the plan of a good turn is a win, its player wins after its cell
 /// against every reply.

@@ -42,8 +42,7 @@
 //!   player's, and claims that he wins whoever places first. Beside no other plan stands one.
 //! - After the cell of a win its player wins against every reply ([`certified_moves_win`]). Each
 //!   move outside the carrier of a threat loses ([`moves_outside_a_threat_lose`]), and each move on
-//!   a lost board ([`lost_boards_lose`]). So it is of each plan, also without a turn
-//!   ([`plans_tell_who_wins`]).
+//!   a lost board ([`lost_boards_lose`]).
 //! - After a look-ahead a search may become a win by a certificate too ([`plan_after`]); no other
 //!   plan changes.
 //! - With a budget of 0 a plan rests on connections alone, or after a look-ahead on the certificate
@@ -96,8 +95,8 @@
 //!   from a bound on, so that no list is sorted.
 //! - A win is by a semi entry if there is one, the first by number, since its certificate is
 //!   shorter. No clause says which.
-//! - [`IsGood`](specs/Good.antt) says that no stones of the turn's board overlap or lie off it: the
-//!   law of certified moves needs it, and of a win no search's shape says it.
+//! - [`IsGood`](specs/Good.antt) says that no stones of the turn's board overlap or lie off it,
+//!   since of a win no search's shape says it.
 #![tactic(auto)]
 
 mod after_stone;
@@ -130,7 +129,6 @@ pub use archives::{Archive, NoArchive};
 pub use in_memory::MemArchive;
 pub use laws::{
     certified_moves_win, lost_boards_lose, moves_outside_a_threat_lose, one_worker_decides,
-    plans_tell_who_wins,
 };
 pub use openings::may_move;
 pub use planning::plan;

@@ -1,4 +1,4 @@
-//! Links with more stones, from a copy of those before.
+//! Links with more stones, made of those before.
 
 use super::adding::MOST_ENTRIES;
 use super::bits::Bits;

@@ -105,7 +105,7 @@ impl Case {
 /// that the processor has it at hand.
 #[derive(Drop)]
 pub(crate) struct Judge {
-    desk: Desk,
+    scratch: Scratch,
     cases: Vec<Case>,
 }
 
@@ -113,7 +113,7 @@ impl Judge {
     /// One with so many cases without a job.
     pub(crate) fn make(alloc: Global, cases: usize) -> Result<Judge, Memory> {
         let mut judge = Judge {
-            desk: Desk::make(alloc)?,
+            scratch: Scratch::make(alloc)?,
             cases: Vec::new(alloc),
         };
         for _case in 0..cases {
@@ -130,7 +130,7 @@ impl Judge {
     /// Does the jobs of the first so many cases, by the links that are kept.
     pub(crate) fn work(&mut self, count: usize, pool: &Pool) {
         for case in self.cases.iter_mut().take(count) {
-            self.desk.work(case, pool);
+            self.scratch.work(case, pool);
         }
     }
 
@@ -142,7 +142,7 @@ impl Judge {
         must: CellSet,
     ) -> Result<Finding, Memory> {
         match self.cases.first_mut() {
-            Some(case) => self.desk.judged_root(case, board, mover, must),
+            Some(case) => self.scratch.judged_root(case, board, mover, must),
             None => Err(Memory),
         }
     }
@@ -150,7 +150,7 @@ impl Judge {
 
 // What a board is judged with.
 #[derive(Drop)]
-struct Desk {
+struct Scratch {
     own: Circuit,
     other: Circuit,
     // The links of the board.
@@ -158,11 +158,11 @@ struct Desk {
     room: Room,
 }
 
-impl Desk {
-    fn make(alloc: Global) -> Result<Desk, Memory> {
+impl Scratch {
+    fn make(alloc: Global) -> Result<Scratch, Memory> {
         let own = Circuit::make(alloc)?;
         let other = Circuit::make(alloc)?;
-        Ok(Desk {
+        Ok(Scratch {
             own,
             other,
             fresh: Both::make(alloc)?,

@@ -1,4 +1,4 @@
--- The cells that are searched are empty.
+-- The cells that are searched are empty; and what the plan of a turn rests on.
 use Rattle.std.proofs.Common.{◌≡◌, ◌||◌, ◌==◌, not, ℕ, Bool, true, Option, None, Some, refl, sym, ap}
 use Rattle.std.proofs.Common.{◌∙◌, ◌⊎◌, inl, inr, subst}
 use Rattle.std.specs.Prelude.{is_some}
@@ -11,9 +11,12 @@ use Rattle.hex_board.specs.Positions.{AllEmpty, Position, is_empty_at}
 use Rattle.look_ahead.specs.Looked.{LookedData}
 use Rattle.hex_plan.specs.Good.{IsLookedFor}
 use Rattle.hex_plan.specs.Plans.{AllowsEmpties, IsSearchAmong, IsWin}
+use Rattle.hex_plan.specs.Resting.{IsFoundPlan, RestsOn}
 use Rattle.hex_plan.specs.Turns.{ChoseAmong, IsLookedAt, searched_cells}
+use Rattle.hex_plan.specs.declared.settings.Means.{Means}
 use Rattle.hex_plan.specs.declared.types.Plan.{Plan}
 use Rattle.hex_plan.specs.declared.types.Plan.TheVariants.{Win, Search}
+use Rattle.turn_search.specs.Owed.{MayRestOn}
 
 -- a set of one cell has no other
 in_one : (k j : ℕ) → has (with_cell 0 k) j ≡ true → j ≡ k
@@ -58,3 +61,11 @@ as_before plan new n (inr e) = e
 pub nobody : {C : Type 0} (o : Option C) → not (is_some o) ≡ true → o ≡ None
 nobody None e = refl
 nobody (Some c) e = absurd (cc)
+
+-- the plan after a look-ahead rests on what the one before rests on, or was found
+pub may_rest : (now : Position) (mover : Colour) (means : Means) (plan new : Plan)
+    → RestsOn now mover means.hsearch means.solve plan
+    → IsFoundPlan now mover new ⊎ (new ≡ plan) → MayRestOn now mover means new
+may_rest now mover means plan new rests (inl found) = inr found
+may_rest now mover means plan new rests (inr same)
+    = inl (subst (RestsOn now mover means.hsearch means.solve) (sym same) rests)

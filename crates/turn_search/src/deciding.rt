@@ -5,7 +5,7 @@ ghost use Rattle.hex_plan.specs.Good.{looks_ahead};
 ghost use Rattle.hex_plan.specs.Openings.{may_move};
 ghost use Rattle.hex_plan.specs.Turns.{ChoseAmong, IsLookedAt, searched_cells};
 ghost use Rattle.tree_words.specs.Settings.{AreInRange, IsAny};
-ghost use Rattle.turn_search.specs.Owed.{IsOwed};
+ghost use Rattle.turn_search.specs.Owed.{IsOwed, MayRestOn};
 
 use hex_board::Board;
 use hex_cells::{CellSet, Colour};
@@ -52,7 +52,8 @@ impl KeptLook {
 /// the cells that the plan allows, and begins with what is kept; then it is planned once more, by
 /// [`plan_after`]. If the plan is still no win, it is searched, by the workers of the knobs, which
 /// pass the gate: at the cell that was chosen, or else among those that the plan allows. The
-/// search's seed is that of the knobs plus `turns·2^32`, modulo 2^64.
+/// search's seed is that of the knobs plus `turns·2^32`, modulo 2^64. What the plan rests on is
+/// said too: reports of connections, or a certificate that was found.
 ///
 /// No player is joined on the board, a cell is empty, and the knobs are in their ranges. It refuses
 /// only if memory runs out. The call returns if its workers do.
@@ -69,7 +70,8 @@ pub fn decided_turn<R: Threads + Sync, G: Gate + Sync>(
 ) -> Result<Turn, Memory>
     requires may { may_move board.now ≡ true }
     requires ranges { AreInRange knobs.now }
-    ensures { IfOk result (IsOwed knobs.now means board.now colour turns) }
+    ensures owed { IfOk result (IsOwed knobs.now means board.now colour turns) }
+    ensures rests { IfOk result (λ turn. MayRestOn board.now colour means turn.planned.plan) }
 {
     let planned = plan(alloc, board, colour, means)?;
     let Some(allowed) = planned.allowed() else {

@@ -13,7 +13,8 @@ use Rattle.hex_plan.specs.Good.{IsLookedFor}
 use Rattle.hex_plan.specs.Plans.{IsPlanned, IsSearchAmong}
 use Rattle.hex_plan.specs.Turns.{TurnData}
 use Rattle.hex_plan.specs.declared.types.Plan.{Plan}
-use Rattle.turn_search.proofs.Searched.{as_before, looked_for, nobody, searched_empty}
+use Rattle.turn_search.specs.Owed.{MayRestOn}
+use Rattle.turn_search.proofs.Searched.{as_before, looked_for, may_rest, nobody, searched_empty}
 use Rattle.turn_search.proofs.deciding.decided_turn.Goals as goal
 
 pub plan-requires-clause-room : goal.plan-requires-clause-room
@@ -26,8 +27,16 @@ turn_shape-shape-requires-clause-empty g c
     c.in_ok-looked.looked c.in_ok-planned.ensures.allowed c.in-Some.ensures.search
     c.in_ok-looked.ensures.chosen)
 
-pub returns : goal.returns
-returns g c =
+pub returns-clause-rests : goal.returns-clause-rests
+returns-clause-rests g c =
+    let plan = c.in_ok-planned-2.planned.plan in
+    let same = ap (λ (t : TurnData). t.planned.plan) c.searched.ensures.parts in
+    subst (MayRestOn c.args.board.now c.args.colour c.args.means) (sym same)
+    (may_rest c.args.board.now c.args.colour c.args.means c.in_ok-planned.planned.plan plan
+    c.in_ok-planned.ensures.rests c.in_ok-planned-2.ensures.found)
+
+pub returns-clause-owed : goal.returns-clause-owed
+returns-clause-owed g c =
     let tree = c.in-Ok.closed in
     let same : tree.shape ≡ c.turn_shape-shape.result = c.in-Ok.ensures.shape in
     let board : tree.shape.board ≡ c.args.board.now
