@@ -57,12 +57,20 @@ impl Row {
 /// it.
 pub(crate) fn rows_of(draft: &Draft) -> Result<Rows, AllocError> {
     let layouts = layouts_of(draft)?;
-    let mut list = Vec::new(draft.alloc);
+    let mut rows = Rows {
+        list: Vec::new(draft.alloc),
+        claim: place_of(draft, &layouts, 0),
+    };
+    push_blocks(draft, &layouts, &mut rows.list)?;
+    Ok(rows)
+}
+
+// The lines of all scopes.
+fn push_blocks(draft: &Draft, layouts: &[Layout], list: &mut Vec<Row>) -> Result<(), AllocError> {
     for (block, layout) in draft.blocks.values().zip(layouts.iter()).rev() {
-        push_block(draft, &layouts, block, layout, &mut list)?;
+        push_block(draft, layouts, block, layout, list)?;
     }
-    let claim = place_of(draft, &layouts, 0);
-    Ok(Rows { list, claim })
+    Ok(())
 }
 
 // The layout of each scope.
@@ -116,18 +124,52 @@ fn push_block(
     layout: &Layout,
     list: &mut Vec<Row>,
 ) -> Result<(), AllocError> {
+    push_derived(draft.alloc, block, layout, list)?;
+    push_moves(draft, layouts, block, list)?;
+    push_cases(draft, layouts, block, list)
+}
+
+// Those of H-search that are chosen.
+fn push_derived(
+    alloc: Global,
+    block: &Block,
+    layout: &Layout,
+    list: &mut Vec<Row>,
+) -> Result<(), AllocError> {
     let stones = block.stones;
     for (step, is_chosen) in block.pool.steps.iter().zip(block.pool.chosen.iter()) {
         if *is_chosen {
-            let (how, takes) = derived(draft.alloc, layout, *step)?;
+            let (how, takes) = derived(alloc, layout, *step)?;
             list.push(Row { stones, how, takes })?;
         }
     }
+    Ok(())
+}
+
+// Those by a stone.
+fn push_moves(
+    draft: &Draft,
+    layouts: &[Layout],
+    block: &Block,
+    list: &mut Vec<Row>,
+) -> Result<(), AllocError> {
+    let stones = block.stones;
     for stone in block.moves.iter() {
         let takes = vec![in draft.alloc; place_of(draft, layouts, stone.need); 1]?;
         let how = How::Stone(stone.cell);
         list.push(Row { stones, how, takes })?;
     }
+    Ok(())
+}
+
+// Those by cases.
+fn push_cases(
+    draft: &Draft,
+    layouts: &[Layout],
+    block: &Block,
+    list: &mut Vec<Row>,
+) -> Result<(), AllocError> {
+    let stones = block.stones;
     for cases in block.cases.iter() {
         let takes = cases.iter().map(|need| place_of(draft, layouts, *need));
         let (how, takes) = (How::Cases, takes.collect(draft.alloc)?);

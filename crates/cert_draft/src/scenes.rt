@@ -41,28 +41,53 @@ impl Scene {
         stones: CellSet,
         needs: &[Need],
     ) -> Result<Scene, AllocError> {
-        let alloc = draft.alloc;
-        let mut scene = Scene {
+        let mut scene = Scene::bare(draft.alloc, stones);
+        scene.derive_all(deriver, tables, draft, needs)?;
+        scene.list_all(tables, draft, needs)?;
+        Ok(scene)
+    }
+
+    // The scope with these stones, in which nothing is derived or listed.
+    fn bare(alloc: Global, stones: CellSet) -> Scene {
+        Scene {
             alloc,
             stones,
             pool: Pool::new(alloc),
             have: Vec::new(alloc),
             ways: Vec::new(alloc),
             regions: IndexSet::new(alloc),
-        };
+        }
+    }
+
+    // Derives what may serve the needs.
+    fn derive_all(
+        &mut self,
+        deriver: &mut Deriver,
+        tables: &Tables,
+        draft: &Draft,
+        needs: &[Need],
+    ) -> Result<(), AllocError> {
+        for need in needs {
+            self.derive(deriver, need.region)?;
+        }
+        self.derive_reported(deriver, tables, draft, Kind::Full, needs)?;
+        self.derive_reported(deriver, tables, draft, Kind::Semi, needs)
+    }
+
+    // Lists the semi entries that may serve the needs.
+    fn list_all(
+        &mut self,
+        tables: &Tables,
+        draft: &Draft,
+        needs: &[Need],
+    ) -> Result<(), AllocError> {
         let regions = needs.iter().map(|need| need.region);
         let region = regions.fold(CellSet::none(), |all, region| all.union(region));
-        for need in needs {
-            scene.derive(deriver, need.region)?;
-        }
-        for kind in [Kind::Full, Kind::Semi] {
-            scene.derive_reported(deriver, tables, draft, kind, needs)?;
-        }
-        scene.list_derived()?;
+        self.list_derived()?;
         for cell in cells_of(region) {
-            scene.list_stone(tables, draft, cell, region)?;
+            self.list_stone(tables, draft, cell, region)?;
         }
-        Ok(scene)
+        Ok(())
     }
 
     // Derives what H-search finds inside the region, if that wasn't done.
@@ -88,15 +113,29 @@ impl Scene {
     ) -> Result<(), AllocError> {
         let key = draft.key(kind, self.stones);
         for entry in tables.entries(&key).iter().rev() {
-            let serves = needs.iter().any(|need| entry.carrier.inside(need.region));
-            let regions = entry.report.map(|region| [entry.carrier, region]);
-            for region in regions.into_iter().flatten() {
-                if serves && !self.has(kind, entry.carrier) {
-                    self.derive(deriver, region)?;
-                }
+            if let Some(region) = entry.report
+                && needs.iter().any(|need| entry.carrier.inside(need.region))
+            {
+                self.derive_missing(deriver, kind, entry.carrier, entry.carrier)?;
+                self.derive_missing(deriver, kind, entry.carrier, region)?;
             }
         }
         Ok(())
+    }
+
+    // Derives what H-search finds inside the region, if no entry of this kind inside the carrier is
+    // derived.
+    fn derive_missing(
+        &mut self,
+        deriver: &mut Deriver,
+        kind: Kind,
+        carrier: CellSet,
+        region: CellSet,
+    ) -> Result<(), AllocError> {
+        if self.has(kind, carrier) {
+            return Ok(());
+        }
+        self.derive(deriver, region)
     }
 
     // Whether an entry of this kind inside the carrier is derived.
@@ -190,17 +229,34 @@ impl Scene {
     /// What it costs to show a full entry inside a region by cases, and their carriers; `None` if
     /// there are no such.
     pub(crate) fn cases(&self, region: CellSet) -> Result<Option<(u64, Vec<CellSet>)>, AllocError> {
+        let ways = self.ways_inside(region)?;
+        let carriers = ways.iter().map(|way| way.carrier);
+        let carriers: Vec<CellSet> = carriers.collect(self.alloc)?;
+        self.cases_among(&ways, &carriers, region)
+    }
+
+    // The ways inside a region, the cheapest first.
+    fn ways_inside(&self, region: CellSet) -> Result<Vec<Way>, AllocError> {
         let inside = self.ways.iter().filter(|way| way.carrier.inside(region));
         let mut ways: Vec<Way> = inside.copied().collect(self.alloc)?;
         ways.sort_by_key(|way| self.cost(way))?;
-        let each = ways.iter().map(|way| way.carrier);
-        let carriers: Vec<CellSet> = each.collect(self.alloc)?;
+        Ok(ways)
+    }
+
+    // What it costs to show a full entry inside a region by cases of these ways, which have these
+    // carriers, and those of the cases.
+    fn cases_among(
+        &self,
+        ways: &[Way],
+        carriers: &[CellSet],
+        region: CellSet,
+    ) -> Result<Option<(u64, Vec<CellSet>)>, AllocError> {
         let mut costs = WayCosts {
             scene: self,
-            ways: &ways,
+            ways,
             over: self.pool.chosen.to_vec(self.alloc)?,
         };
-        let chosen = cover(self.alloc, &carriers, region, &mut costs)?;
+        let chosen = cover(self.alloc, carriers, region, &mut costs)?;
         if chosen.is_empty() {
             return Ok(None);
         }

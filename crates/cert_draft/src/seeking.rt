@@ -8,7 +8,7 @@ use super::derivers::Deriver;
 use super::drafts::Draft;
 use super::refusals::Memory;
 use super::writing::cert_of;
-use edge_tables::FinderStop;
+use edge_tables::{FinderStop, Tables};
 use hex_board::Board;
 use hex_cells::{Cell, Colour};
 use hex_scout::{Search, State};
@@ -68,7 +68,8 @@ fn search(alloc: Global, root: &State, budget: u64, sought: &mut Sought) -> Resu
     Ok(())
 }
 
-// Decides who wins, and makes a draft of what that found. The search itself is let go then.
+// Decides who wins, and makes a draft of what that found. The search itself is let go then: who owns
+// it does nothing else, since each way out of a function drops what it owns.
 fn drafted(
     alloc: Global,
     root: &State,
@@ -79,17 +80,43 @@ fn drafted(
     ensures within { sought.new.entered ≤ budget }
     ensures empty { IfSome sought.new.best (λ cell. is_empty_at root.now.board cell ≡ true) }
 {
-    let size = root.board.size();
-    let mut search = Search::make(alloc, size)?;
+    let mut search = Search::make(alloc, root.board.size())?;
+    drafted_by(alloc, &mut search, root, budget, sought)
+}
+
+// Decides who wins by a search, and makes a draft of what that found.
+fn drafted_by(
+    alloc: Global,
+    search: &mut Search,
+    root: &State,
+    budget: u64,
+    sought: &mut Sought,
+) -> Result<Option<Draft>, FinderStop>
+    requires none { (sought.old.entered ≡ 0) × (sought.old.best ≡ None) }
+    ensures within { sought.new.entered ≤ budget }
+    ensures empty { IfSome sought.new.best (λ cell. is_empty_at root.now.board cell ≡ true) }
+{
     let outcome = search.decide(root, budget);
     sought.entered = outcome.entered;
     sought.best = search.best(root);
     sought.by_mover = outcome.by_mover?;
-    let player = match sought.by_mover {
-        Some(true) => root.mover,
-        Some(false) => root.mover.other(),
-        None => return Ok(None),
-    };
-    let mut deriver = Deriver::make(alloc, size, player)?;
-    Ok(Some(assemble(alloc, &mut deriver, &search.tables, root)?))
+    match sought.by_mover {
+        Some(true) => draft_for(alloc, root.mover, &search.tables, root),
+        Some(false) => draft_for(alloc, root.mover.other(), &search.tables, root),
+        None => Ok(None),
+    }
+}
+
+// A draft that shows that the player wins, by the entries of these tables.
+fn draft_for(
+    alloc: Global,
+    player: Colour,
+    tables: &Tables,
+    root: &State,
+) -> Result<Option<Draft>, FinderStop> {
+    let mut deriver = Deriver::make(alloc, root.board.size(), player)?;
+    match assemble(alloc, &mut deriver, tables, root) {
+        Ok(draft) => Ok(Some(draft)),
+        Err(stop) => Err(stop),
+    }
 }
