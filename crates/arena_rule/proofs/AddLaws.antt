@@ -128,7 +128,8 @@ new-none s o b bs x i y f h l = adds-none s o (x + i) bs y
 mover-new : (s : Setting) (b : LinkedBlock) (bs : List LinkedBlock) (x : ℕ) → has_node b x ≡ true
     → (node_state s bs b.parent).player ≡ mover_of s (b ∷ bs) x
 mover-new s b bs x h
-    = sym (ap (λ (t : Bool). mover_at (cond t (state_after (node_state s bs b.parent) (cell_at b (place b x))) (node_state s bs x))) h ∙ other_back (node_state s bs b.parent).player)
+    = sym (ap (λ (t : Bool). mover_at (cond t (state_after (node_state s bs b.parent) (cell_at b (place b x))) (node_state s bs x))) h
+    ∙ other_back (node_state s bs b.parent).player)
 
 module _ (s : Setting) (o : Ending) (x : ℕ) where
   -- the tally of a node on the path gets one visit, and one win if its mover won; no other tally
@@ -215,7 +216,11 @@ module _ (s : Setting) (o : Ending) (c : LinkedBlock) (x : ℕ) (hc : has_node c
       let k : at.0 ≡ place c x
       = sym (ap (λ (z : ℕ). place c z) (omega (arith, at.2)) ∙ is_child c.start at.0) in
       up-here s o (x + SEEN_WORD) c bs y hy
-      ∙ omega (arith, miss (y + TALLY_WORD) (x + SEEN_WORD) won (λ e. let q = has-at c y hy in omega (arith, q.2, at.2, e)), new-none s o c bs x 3 c.parent f hc (omega arith))
+      ∙ omega (
+        arith,
+        miss (y + TALLY_WORD) (x + SEEN_WORD) won (λ e. let q = has-at c y hy in omega (arith, q.2, at.2, e)),
+        new-none s o c bs x 3 c.parent f hc (omega arith),
+      )
       ∙ ap (λ (w : ℕ). amount_at w (seen_adds (stones_of o.full p.player) won (c.start + 4) c.cells)) is
       ∙ seen-hit (stones_of o.full p.player) won (c.start + 4) at.0 c.cells at.1
       ∙ ap (λ (j : ℕ). cond (has_cell (stones_of o.full p.player) (cell_at c j)) (amount_of won) 0) k
@@ -238,7 +243,8 @@ module _ (s : Setting) (o : Ending) (c : LinkedBlock) (x : ℕ) (hc : has_node c
       (λ (j : In c bs).
       let nx : is_node (root_at s) bs x ≡ true = in-node (root_at s) bs c x j hc in
       let same : seen bs ≡ seen (b ∷ bs)
-      = sym (ap (λ (p : NodeState). cond (has_cell (stones_of o.full (mover_at p)) (cell_at c (place c x))) (amount_of (is_same o.winner (mover_at p))) 0) (spot-same s b bs x g.0 nx)) in
+      = sym (ap (λ (p : NodeState). cond (has_cell (stones_of o.full (mover_at p)) (cell_at c (place c x))) (amount_of (is_same o.winner (mover_at p))) 0)
+      (spot-same s b bs x g.0 nx)) in
       ⊎_elim
       (λ (hy : has_node b y ≡ true).
       let off : has_node c y ≡ false
@@ -269,7 +275,8 @@ module _ (s : Setting) (bs : List LinkedBlock) (order : InOrder (root_at s) bs) 
   pub seen-amount : (c : LinkedBlock) (x : ℕ) → In c bs → has_node c x ≡ true
       → amount_at (x + SEEN_WORD) (walk_adds s bs k leaf)
       ≡ cond (enters s bs c leaf)
-      (cond (has_cell (stones_of (outcome_of s k (node_state s bs leaf)).full (mover_of s bs x)) (cell_at c (place c x))) (amount_of (is_same (outcome_of s k (node_state s bs leaf)).winner (mover_of s bs x))) 0)
+      (cond (has_cell (stones_of (outcome_of s k (node_state s bs leaf)).full (mover_of s bs x)) (cell_at c (place c x)))
+      (amount_of (is_same (outcome_of s k (node_state s bs leaf)).winner (mover_of s bs x))) 0)
       0
   unfolding walk_adds
   seen-amount c x i h = seen-up s (outcome_of s k (node_state s bs leaf)) c x h bs leaf order i

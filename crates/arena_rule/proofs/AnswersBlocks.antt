@@ -83,7 +83,8 @@ module _ (s : Setting) (bs : List LinkedBlock) (words : List ℕ) (views : List 
       → link_in words x ≡ link_of ks x
   known-link [] x k l = absurd (omega arith)
   known-link (c ∷ ks) x k l = ⊎_elim
-      (λ (e : (c.parent == x) ≡ true). ap (link_in words) (sym (eqb-true c.parent x e)) ∙ linked-in c k.0 ∙ sym (ap (λ (u : Bool). cond u c.start (link_of ks x)) e))
+      (λ (e : (c.parent == x) ≡ true). ap (link_in words) (sym (eqb-true c.parent x e)) ∙ linked-in c k.0
+      ∙ sym (ap (λ (u : Bool). cond u c.start (link_of ks x)) e))
       (λ (e : (c.parent == x) ≡ false).
       let at : link_of (c ∷ ks) x ≡ link_of ks x
       = ap (λ (u : Bool). cond u c.start (link_of ks x)) e in
@@ -110,11 +111,23 @@ module _ (s : Setting) (bs : List LinkedBlock) (words : List ℕ) (views : List 
       ∙ in-range h.start h.size h.start (omega arith)
       (omega (arith, (state.held j u at h e).some)) in
       let one : held_at h.start u ≡ 1 = ap one_if mine in
-      let low = (claimed-low (area_at s) (next_in words) (end_of s) h.start (omega (arith, one, total_at (held_at h.start) views j u at, state.apart h.start))).0 in
+      let low = (claimed-low (area_at s) (next_in words) (end_of s) h.start (omega (
+        arith,
+        one,
+        total_at (held_at h.start) views j u at,
+        state.apart h.start,
+      ))).0 in
       let link : link_of bs x ≡ h.start = sym (state.linked.blocks.shows.links x n) ∙ q in
       let named : 0 < cover h.start bs
       = subst (λ (z : ℕ). 0 < cover z bs) link (link-cover bs x (omega (arith, link))) in
-      absurd (omega (arith, named, one, total_at (held_at h.start) views j u at, state.apart h.start, claimed-one (area_at s) (next_in words) (end_of s) h.start))
+      absurd (omega (
+        arith,
+        named,
+        one,
+        total_at (held_at h.start) views j u at,
+        state.apart h.start,
+        claimed-one (area_at s) (next_in words) (end_of s) h.start,
+      ))
 
   -- A known block is what the words show: its parent's link names it, and its header and moves
   -- stand there.

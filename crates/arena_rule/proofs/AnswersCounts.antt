@@ -128,7 +128,8 @@ module _ (bs : List LinkedBlock) (words : List ℕ) (views : List SeatView) (id 
       omega (
         arith,
         seen-adds v.shape bs b.state.linked.blocks.order k leaf t.0 x t.1 t.2,
-        one-most (enters v.shape bs t.0 leaf && has_cell (stones_of (outcome_of v.shape k (node_state v.shape bs leaf)).full (mover_of v.shape bs x)) (cell_at t.0 (place t.0 x))),
+        one-most (enters v.shape bs t.0 leaf && has_cell (stones_of (outcome_of v.shape k (node_state v.shape bs leaf)).full (mover_of v.shape bs x))
+            (cell_at t.0 (place t.0 x))),
       ))
       (node-in (root_at v.shape) bs x n)
 
@@ -182,7 +183,8 @@ module _ (bs : List LinkedBlock) (words : List ℕ) (views : List SeatView) (id 
         ap (adds_in (x + TALLY_WORD)) made,
         walks-same (λ q. cond (is_on s v.known x (leaf_in q.value)) 1 0)
             (λ q. adds_in (x + TALLY_WORD) (walk_adds s bs q.number (leaf_in q.value))) v.walks
-            (λ q c. ap {B = ℕ} (λ (t : Bool). cond t 1 0) (on (leaf_in q.value) (hand.leaves q c)) ∙ sym (tally-adds s bs order q.number (leaf_in q.value) x m)),
+            (λ q c. ap {B = ℕ} (λ (t : Bool). cond t 1 0) (on (leaf_in q.value) (hand.leaves q c))
+            ∙ sym (tally-adds s bs order q.number (leaf_in q.value) x m)),
       )
 
   pub answers-tally : (x : ℕ) → is_known v x ≡ true

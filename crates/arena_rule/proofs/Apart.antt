@@ -89,7 +89,13 @@ module _ (bs : List LinkedBlock) (words : List ℕ) (views : List SeatView) (id 
   apart-frame : (u : SeatView) (words' : List ℕ) → ((i : ℕ) → held_at i u ≡ held_at i v)
       → next_in words' ≡ next_in words → AreApart v.shape bs words' (set views id u)
   apart-frame u words' h n i
-      = omega (arith, total_set (held_at i) views id v u b.at, b.state.apart i, h i, ap (λ (z : ℕ). one_if (nat_le (area_at v.shape) i && (nat_lt i z && nat_lt i (end_of v.shape)))) n)
+      = omega (
+        arith,
+        total_set (held_at i) views id v u b.at,
+        b.state.apart i,
+        h i,
+        ap (λ (z : ℕ). one_if (nat_le (area_at v.shape) i && (nat_lt i z && nat_lt i (end_of v.shape)))) n,
+      )
 
   apart-draw : (fits : FitsStep v Draw)
       → AreApart v.shape bs (words_after words Draw) (views_after words views id v Draw)
@@ -109,7 +115,8 @@ module _ (bs : List LinkedBlock) (words : List ℕ) (views : List SeatView) (id 
       let next = ap (λ (z : ℕ). one_if (nat_le (area_at v.shape) i && (nat_lt i z && nat_lt i (end_of v.shape)))) (next-claimed bs words views id v b many) in
       let low = next-area bs words views id v b in
       ⊎_elim
-      (λ (c : (x + many ≤ end_of v.shape) × (claimed_at v many x ≡ record v { held = Some (record { start = x; size = many; written = [] }); claimed = v.claimed + many })).
+      (λ (c : (x + many ≤ end_of v.shape) × (claimed_at v many x
+      ≡ record v { held = Some (record { start = x; size = many; written = [] }); claimed = v.claimed + many })).
       let here : held_at i u ≡ one_if (nat_le x i && nat_lt i (x + many))
       = ap (λ (z : SeatView). held_at i z) c.1 in
       omega (arith, sum, none, here, next, b.state.apart i, claimed-block (area_at v.shape) x many (end_of v.shape) i low c.0))
@@ -140,7 +147,8 @@ module _ (bs : List LinkedBlock) (words : List ℕ) (views : List SeatView) (id 
 
       next : one_if (is_claimed v.shape (words_after words (Publish l c)) i) ≡ one_if
           (is_claimed v.shape words i)
-      next = ap (λ (z : ℕ). one_if (nat_le (area_at v.shape) i && (nat_lt i z && nat_lt i (end_of v.shape)))) (next-stays bs words views id v b (Publish l c) fits tt)
+      next = ap (λ (z : ℕ). one_if (nat_le (area_at v.shape) i && (nat_lt i z
+          && nat_lt i (end_of v.shape)))) (next-stays bs words views id v b (Publish l c) fits tt)
 
       by : (t : Bool) → cover i (cond t (d ∷ bs) bs) + sum_by (held_at i) (set views id u) ≤ one_if
           (is_claimed v.shape (words_after words (Publish l c)) i)
@@ -185,8 +193,10 @@ module _ (bs : List LinkedBlock) (words : List ℕ) (views : List SeatView) (id 
       → ((h : HeldBlock) → (after v op (answer_of op (slice_index words (word_of op)))).held ≡ Some h → HasWritten (words_after words op) h)
       → AreWritten (words_after words op) (views_after words views id v op)
   held-set op fits mine
-      = each-set (λ (u : SeatView). (h : HeldBlock) → u.held ≡ Some h → HasWritten (words_after words op) h) views id (after v op (answer_of op (slice_index words (word_of op))))
-      (λ j u ne e h q. held-same (words_after words op) h (b.state.held j u e h q) (λ i t. held-stays bs words views id v b op j u i fits ne e (ap (λ (o : Option HeldBlock). is_held o i) q ∙ t)))
+      = each-set (λ (u : SeatView). (h : HeldBlock) → u.held ≡ Some h
+      → HasWritten (words_after words op) h) views id (after v op (answer_of op (slice_index words (word_of op))))
+      (λ j u ne e h q. held-same (words_after words op) h (b.state.held j u e h q)
+      (λ i t. held-stays bs words views id v b op j u i fits ne e (ap (λ (o : Option HeldBlock). is_held o i) q ∙ t)))
       mine
 
   -- the view holds nothing
@@ -201,7 +211,8 @@ module _ (bs : List LinkedBlock) (words : List ℕ) (views : List SeatView) (id 
       let x : ℕ = next_in words in
       let low = next-area bs words views id v b in
       ⊎_elim
-      (λ (c : (x + many ≤ end_of v.shape) × (claimed_at v many x ≡ record v { held = Some (record { start = x; size = many; written = [] }); claimed = v.claimed + many })).
+      (λ (c : (x + many ≤ end_of v.shape) × (claimed_at v many x
+      ≡ record v { held = Some (record { start = x; size = many; written = [] }); claimed = v.claimed + many })).
       let new : HeldBlock = record { start = x; size = many; written = [] } in
       let inside = c.0 in
       subst (HasWritten (words_after words (Claim many)))
@@ -211,7 +222,8 @@ module _ (bs : List LinkedBlock) (words : List ℕ) (views : List SeatView) (id 
         each = λ j l. get_or-set_other words 0 (x + j) (x + many) 0 (λ q. omega (arith, q))
             ∙ b.state.fresh (x + j) (omega arith) (omega arith) (omega arith);
       }))
-      (λ (c : (end_of v.shape < x + many) × (claimed_at v many x ≡ record v { full = true })). held-none (words_after words (Claim many)) v.held fits.held h (sym (ap (λ (z : SeatView). z.held) c.1) ∙ e))
+      (λ (c : (end_of v.shape < x + many) × (claimed_at v many x
+      ≡ record v { full = true })). held-none (words_after words (Claim many)) v.held fits.held h (sym (ap (λ (z : SeatView). z.held) c.1) ∙ e))
       (claimed_cases v many x)
 
   held-write : (i value : ℕ) → FitsWrite v i → (h : HeldBlock)

@@ -25,15 +25,27 @@ drew_cases v x = by (nat_lt x v.shape.knobs.playouts) refl
 
 -- a Claim gives a block to hold, or goes past the area's end
 pub claimed_cases : (v : SeatView) (size x : ℕ)
-    → ((x + size ≤ end_of v.shape) × (claimed_at v size x ≡ record v { held = Some (record { start = x; size = size; written = [] }); claimed = v.claimed + size }))
+    → ((x + size ≤ end_of v.shape) × (claimed_at v size x ≡ record v {
+      held = Some (record { start = x; size = size; written = [] });
+      claimed = v.claimed
+          + size;
+    }))
     ⊎ ((end_of v.shape < x + size) × (claimed_at v size x ≡ record v { full = true }))
 unfolding claimed_at
 claimed_cases v size x = by (nat_le (x + size) (end_of v.shape)) refl
   where
     by : (t : Bool) → nat_le (x + size) (end_of v.shape) ≡ t
-        → ((x + size ≤ end_of v.shape) × (cond t (record v { held = Some (record { start = x; size = size; written = [] }); claimed = v.claimed + size }) (record v { full = true })
+        → ((x + size ≤ end_of v.shape) × (cond t (record v {
+          held = Some (record { start = x; size = size; written = [] });
+          claimed = v.claimed
+              + size;
+        }) (record v { full = true })
         ≡ record v { held = Some (record { start = x; size = size; written = [] }); claimed = v.claimed + size }))
-        ⊎ ((end_of v.shape < x + size) × (cond t (record v { held = Some (record { start = x; size = size; written = [] }); claimed = v.claimed + size }) (record v { full = true }) ≡ record v { full = true }))
+        ⊎ ((end_of v.shape < x + size) × (cond t (record v {
+          held = Some (record { start = x; size = size; written = [] });
+          claimed = v.claimed
+              + size;
+        }) (record v { full = true }) ≡ record v { full = true }))
     by true e = inl (leb-true (x + size) (end_of v.shape) e, refl)
     by false e = inr (leb-false (x + size) (end_of v.shape) e, refl)
 
@@ -55,7 +67,8 @@ module _ {A : Type 0} (f : SeatView → A) where
   claimed_same v size x a c = by (nat_le (x + size) (end_of v.shape))
     where
       by : (t : Bool)
-          → f (cond t (record v { held = Some (record { start = x; size = size; written = [] }); claimed = v.claimed + size }) (record v { full = true })) ≡ f v
+          → f (cond t (record v { held = Some (record { start = x; size = size; written = [] }); claimed = v.claimed + size }) (record v { full = true }))
+          ≡ f v
       by true = a
       by false = c
 

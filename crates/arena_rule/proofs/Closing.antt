@@ -78,7 +78,11 @@ module _ (bs : List LinkedBlock) (words : List ℕ) (views : List SeatView) (id 
       (λ k. amount_at w (walk_adds v.shape bs k (leaf_of words k)))
   counted w =
       only bs words views id v b all ended (amount_counted v.shape bs w) refl
-      ∙ omega (arith, ap (λ (o : Option ℕ). amount_at w (adds_made v.shape bs o v.adds)) (idle bs words views id v b all ended), by-record bs words views id v b all ended (λ k m. amount_at w (walk_adds v.shape bs k (leaf_in m))))
+      ∙ omega (
+        arith,
+        ap (λ (o : Option ℕ). amount_at w (adds_made v.shape bs o v.adds)) (idle bs words views id v b all ended),
+        by-record bs words views id v b all ended (λ k m. amount_at w (walk_adds v.shape bs k (leaf_in m))),
+      )
 
   -- a word of amounts has their counts
   counts : (m : ℕ) (t u : ℕ → Bool) → m ≡ sum_below n (λ k. cond (t k) (amount_of (u k)) 0)
@@ -118,7 +122,17 @@ module _ (bs : List LinkedBlock) (words : List ℕ) (views : List SeatView) (id 
       let few = b.state.setting.ranges.workers.1 in
       record {
         next = omega (arith, b.state.widths.next, only bs words views id v b all ended full_width refl, full-less, all, few);
-        ticket = (drawn bs words views id v b all ended, omega (arith, b.state.widths.ticket, only bs words views id v b all ended ended_of refl, ended, all, few));
+        ticket = (
+          drawn bs words views id v b all ended,
+          omega (
+            arith,
+            b.state.widths.ticket,
+            only bs words views id v b all ended ended_of refl,
+            ended,
+            all,
+            few,
+          ),
+        );
       }
 
   grown : Grown v.shape bs words
@@ -129,7 +143,8 @@ module _ (bs : List LinkedBlock) (words : List ℕ) (views : List SeatView) (id 
         (λ m. is_on v.shape bs x (leaf_in m)) in
         let known = walks-same (λ w. cond (is_on v.shape v.known x (leaf_in w.value)) 1 0)
         (λ w. cond (is_on v.shape bs x (leaf_in w.value)) 1 0) v.walks
-        (λ w d. ap one_if (on-linked v.shape bs v.known x (leaf_in w.value) b.state.linked.blocks.order (b.state.known id v b.at) ((b.state.in_hand id v b.at).leaves w d))) in
+        (λ w d. ap one_if (on-linked v.shape bs v.known x (leaf_in w.value) b.state.linked.blocks.order (b.state.known id v b.at)
+        ((b.state.in_hand id v b.at).leaves w d))) in
         omega (arith, ap (λ (t : Count). t.visits) (exact.tallies x (in-node (root_at v.shape) bs c x i hx)), mine, known, through, all);
     leaves = λ l x c m e.
         let mine = count-record bs words views id v b all ended (λ k. leaf_in k == x) in

@@ -60,7 +60,12 @@ on-node s bs x leaf on = ⊎_elim
 -- no walk goes through a node that is not known
 pub through-none : (v : SeatView) (x : ℕ) → is_known v x ≡ false → walks_through v x ≡ 0
 through-none v x n
-    = omega (arith, total_none (λ (w : Walked). cond (is_on v.shape v.known x (leaf_in w.value)) 1 0) v.walks (λ i w _. ap {B = ℕ} (λ (t : Bool). cond t 1 0) (off (leaf_in w.value))), flight v.adds)
+    = omega (
+      arith,
+      total_none (λ (w : Walked). cond (is_on v.shape v.known x (leaf_in w.value)) 1 0) v.walks
+          (λ i w _. ap {B = ℕ} (λ (t : Bool). cond t 1 0) (off (leaf_in w.value))),
+      flight v.adds,
+    )
   where
     off : (leaf : ℕ) → is_on v.shape v.known x leaf ≡ false
     off leaf = false_from_ne_true (is_on v.shape v.known x leaf)
@@ -175,14 +180,29 @@ module _ (bs : List LinkedBlock) (words : List ℕ) (views : List SeatView) (id 
   through-changed Draw x fits order kn begin old
       = omega (arith, old, drew_same (λ z. walks_through z x) v (slice_index words 1) refl refl, drew_same (λ z. z.width) v (slice_index words 1) refl refl)
   through-changed (Look i) x fits order kn begin old =
-      omega (arith, old, through-known bs (known_after v (node_of_link i) (slice_index words i)) x order (b.state.known id v b.at) kn (λ y n. known-more v (node_of_link i) (slice_index words i) y n))
+      omega (
+        arith,
+        old,
+        through-known bs (known_after v (node_of_link i) (slice_index words i)) x order (b.state.known id v b.at) kn
+            (λ y n. known-more v (node_of_link i) (slice_index words i) y n),
+      )
   through-changed (Claim size) x fits order kn begin old =
-      omega (arith, old, claimed_same (λ z. walks_through z x) v size (slice_index words 0) refl refl, claimed_same (λ z. z.width) v size (slice_index words 0) refl refl)
+      omega (
+        arith,
+        old,
+        claimed_same (λ z. walks_through z x) v size (slice_index words 0) refl refl,
+        claimed_same (λ z. z.width) v size (slice_index words 0) refl refl,
+      )
   through-changed (Write i value) x fits order kn begin old = old
   through-changed (Publish l c) x fits order kn begin old =
       let y : ℕ = cond (slice_index words l == 0) c (slice_index words l) in
       let cs : List LinkedBlock = blocks_after bs words v (Publish l c) in
-      omega (arith, old, through-known cs (known_after v (node_of_link l) y) x order (known-behind v cs (node_of_link l) y kn) kn (λ z n. known-more v (node_of_link l) y z n))
+      omega (
+        arith,
+        old,
+        through-known cs (known_after v (node_of_link l) y) x order (known-behind v cs (node_of_link l) y kn) kn
+            (λ z n. known-more v (node_of_link l) y z n),
+      )
   through-changed (Add i won) x fits order kn begin old
       = through-add (record { word = i; won = won }) x fits begin old
   through-changed (Note k value) x fits order kn begin old = through-note k value x fits old
@@ -234,7 +254,13 @@ module _ (bs : List LinkedBlock) (words : List ℕ) (views : List SeatView) (id 
           let mine = c.tallies p.0 p.1 in
           let theirs = c.tallies q.0 q.1 in
           let none : (tally_loaded v (child d q.0)).visits ≡ 0
-          = omega (arith, loaded (child d q.0) theirs.0 theirs.1, h.less (child d q.0) theirs.0 (in-node r v.known d (child d q.0) i (child-has d q.0 q.1)) theirs.1, ap (λ (w : ℕ). (tally_in words w).visits) ys, z) in
+          = omega (
+            arith,
+            loaded (child d q.0) theirs.0 theirs.1,
+            h.less (child d q.0) theirs.0 (in-node r v.known d (child d q.0) i (child-has d q.0 q.1)) theirs.1,
+            ap (λ (w : ℕ). (tally_in words w).visits) ys,
+            z,
+          ) in
           let picked : (tally_loaded v x).visits ≡ 0
           = ap (λ (w : ℕ). (tally_loaded v w).visits) c.choice
           ∙ picks-unvisited v.shape (tally_loaded v) (seen_loaded v) d d.parent q.0 q.1 none in
@@ -261,7 +287,8 @@ module _ (bs : List LinkedBlock) (words : List ℕ) (views : List SeatView) (id 
       = false_from_ne_true (is_node r bs x) (λ n. clash (has_node d x) hx (apart r d bs x f n)) in
       let off : (j : ℕ) (u : SeatView) → get_elem? views j ≡ some u → is_known u x ≡ false
       = λ j u e. false_from_ne_true (is_known u x) (λ n. clash (is_node r bs x)
-      (known-node bs words views id v b j u x e (subst (λ (s : Setting). is_node (root_at s) u.known x ≡ true) (shape-of-each bs words views id v b j u e) n)) out) in
+      (known-node bs words views id v b j u x e (subst (λ (s : Setting). is_node (root_at s) u.known x
+      ≡ true) (shape-of-each bs words views id v b j u e) n)) out) in
       make op x fits order kn
       (λ leaf may on. absurd (clash (is_known v x) (on-node v.shape v.known x leaf on) (off id v b.at)))
       (λ j u e. omega (arith, through-none u x (off j u e))))

@@ -100,7 +100,11 @@ adds-words s o (b ∷ bs) y g =
     let here : has_node b (b.start + 4 + 4 * j) ≡ true = child-has b j l in
     (b.start + 4 + 4 * j, in-node r (b ∷ bs) b (b.start + 4 + 4 * j) (inl refl) here, inr (q, λ e. omega (arith, e)))) in
     subst (λ (t : Bool). EachAdd P (cond t (node_adds o b y above) (adds_up s o bs y)).adds) (sym h)
-    (each-cons P (record { word = y + 2; won = won }) (seen ++ above.adds) (y, in-node r (b ∷ bs) b y (inl refl) h, inl refl) (each-append P seen above.adds mine rest)))
+    (each-cons P (record { word = y + 2; won = won }) (seen ++ above.adds) (
+      y,
+      in-node r (b ∷ bs) b y (inl refl) h,
+      inl refl,
+    ) (each-append P seen above.adds mine rest)))
     (λ (h : has_node b y ≡ false).
     subst (λ (t : Bool). EachAdd P (cond t (node_adds o b y above) (adds_up s o bs y)).adds) (sym h)
     (λ n a e. count-more r b bs a.word (adds-words s o bs y g.1 n a e)))
@@ -276,7 +280,11 @@ module _ (bs : List LinkedBlock) (words : List ℕ) (views : List SeatView) (id 
       let g = b.state.linked.blocks.order in
       other-stays op (c.start + j) fits (let low = block-low c n in omega arith)
       (λ x i m l1 l4 e. stays-clear (root_at v.shape) bs c j x i g n l st m l1 l4 e)
-      (λ h. let none = held-clear id v (c.start + j) b.at h in absurd (omega (arith, none, in-cover bs c (c.start + j) n (covers_if (c.start + j) c (omega arith) (omega (arith, l))))))
+      (λ h. let none = held-clear id v (c.start + j) b.at h in absurd (omega (
+        arith,
+        none,
+        in-cover bs c (c.start + j) n (covers_if (c.start + j) c (omega arith) (omega (arith, l))),
+      )))
     where
       block-low : (c : LinkedBlock) → In c bs → area_at v.shape ≤ c.start
       block-low c n

@@ -108,7 +108,8 @@ module _ (bs : List LinkedBlock) (words : List ℕ) (views : List SeatView) (id 
       × (u.ended ≡ 0) = λ k e. ⊎_elim
       (λ (c : (x < v.shape.knobs.playouts) × (drew v x ≡ record v { ticket = Some x })).
       (some-eq (sym e ∙ ap (λ (z : SeatView). z.ticket) c.1), c.0, ap (λ (z : SeatView). z.ended) c.1 ∙ fits.ended))
-      (λ (c : (v.shape.knobs.playouts ≤ x) × (drew v x ≡ record v { ended = 1 })). absurd (none-some (sym (ap (λ (z : SeatView). z.ticket) c.1 ∙ fits.ticket) ∙ e)))
+      (λ (c : (v.shape.knobs.playouts ≤ x) × (drew v x ≡ record v { ended = 1 })). absurd (none-some (sym (ap (λ (z : SeatView). z.ticket) c.1 ∙ fits.ticket)
+      ∙ e)))
       (drew_cases v x) in
       make u (words_after words Draw) (omega (arith, t)) record {
         ticket = λ k e. let q = hand k e in (omega (arith, t, q.0), omega (arith, q.0, q.1));
@@ -203,7 +204,11 @@ module _ (bs : List LinkedBlock) (words : List ℕ) (views : List SeatView) (id 
         ap (is_known v) at ∙ next.2.known,
         λ q. next.2.below (sym at ∙ q),
         omega arith,
-        omega (arith, get-length (walk_adds v.shape v.known k next.0) 0 (record { word = i; won = won }) next.3, ap (λ (z : ℕ). length (walk_adds v.shape v.known k z)) at),
+        omega (
+          arith,
+          get-length (walk_adds v.shape v.known k next.0) 0 (record { word = i; won = won }) next.3,
+          ap (λ (z : ℕ). length (walk_adds v.shape v.known k z)) at,
+        ),
       )
   flies i won k (Some f) t a next =
       let fly = old.flight k f t a in
@@ -228,7 +233,10 @@ module _ (bs : List LinkedBlock) (words : List ℕ) (views : List SeatView) (id 
       record {
         known = ap (λ (z : Flight). is_known v z.leaf) (sym is) ∙ fly.0;
         below = λ z. fly.1 (ap (λ (y : Flight). y.leaf) is ∙ z);
-        made = (omega (arith, fly.2, ap (λ (y : Flight). y.made) is), omega (arith, fly.3, ap (λ (y : Flight). y.made) is, ap (λ (y : Flight). length (walk_adds v.shape v.known k y.leaf)) is));
+        made = (
+          omega (arith, fly.2, ap (λ (y : Flight). y.made) is),
+          omega (arith, fly.3, ap (λ (y : Flight). y.made) is, ap (λ (y : Flight). length (walk_adds v.shape v.known k y.leaf)) is),
+        );
       })
       (λ y n. n)))
 
@@ -248,12 +256,14 @@ module _ (bs : List LinkedBlock) (words : List ℕ) (views : List SeatView) (id 
       ∙ leaf-recorded leaf (outcome_of v.shape k (node_state v.shape v.known leaf)).winner in
       make u ws l (ticket-more v.shape words ws u l record {
         ticket = λ j e. absurd (none-some e);
-        walks = λ q c. ⊎_elim (λ (e : w ≡ q). subst (λ (z : Walked). (z.number < ticket_in words) × (z.number < v.shape.knobs.playouts)) e (old.ticket k fits.ticket)) (λ (d : Contains v.walks q). old.walks q d) (contains-cons w q v.walks c);
+        walks = λ q c. ⊎_elim (λ (e : w ≡ q). subst (λ (z : Walked). (z.number < ticket_in words)
+            × (z.number < v.shape.knobs.playouts)) e (old.ticket k fits.ticket)) (λ (d : Contains v.walks q). old.walks q d) (contains-cons w q v.walks c);
         one = λ j e. absurd (none-some e);
         idle = λ e. (refl, old.either fits.flight fits.adds);
         either = λ f e. absurd (none-some e);
         flight = λ j f e q. absurd (none-some e);
-        leaves = λ q c. ⊎_elim (λ (e : w ≡ q). subst (λ (z : Walked). is_known v (leaf_in z.value) ≡ true) e (ap (is_known v) is ∙ fly.known)) (λ (d : Contains v.walks q). old.leaves q d) (contains-cons w q v.walks c);
+        leaves = λ q c. ⊎_elim (λ (e : w ≡ q). subst (λ (z : Walked). is_known v (leaf_in z.value) ≡ true) e (ap (is_known v) is
+            ∙ fly.known)) (λ (d : Contains v.walks q). old.leaves q d) (contains-cons w q v.walks c);
       })
 
   in_hand-done : FitsStep v Done

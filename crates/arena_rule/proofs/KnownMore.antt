@@ -47,7 +47,8 @@ known_cases v x b = by (is_known v x && (known_link v x == 0 && not (b == 0))) r
 pub known-more : (v : SeatView) (x b y : ℕ) → is_known v y ≡ true
     → is_node (root_at v.shape) (known_after v x b) y ≡ true
 known-more v x b y n = ⊎_elim
-    (λ (g : Grows v x b). subst (λ (ks : List LinkedBlock). is_node (root_at v.shape) ks y ≡ true) (sym g.is) (or_right (has_node (told_below v x b) y) (is_known v y) n))
+    (λ (g : Grows v x b). subst (λ (ks : List LinkedBlock). is_node (root_at v.shape) ks y
+    ≡ true) (sym g.is) (or_right (has_node (told_below v x b) y) (is_known v y) n))
     (λ (e : known_after v x b ≡ v.known). subst (λ (ks : List LinkedBlock). is_node (root_at v.shape) ks y ≡ true) (sym e) n)
     (known_cases v x b)
 

@@ -134,13 +134,24 @@ module _ (bs : List LinkedBlock) (words : List ℕ) (views : List SeatView) (id 
   -- the walks of the view at x after a step
   at-changed : (op : Op) (x : ℕ) → FitsStep v op → BeginsFew x
       → walks_at v x ≤ v.width * v.shape.knobs.expand
-      → walks_at (changed v op (answer_of op (slice_index words (word_of op)))) x ≤ (changed v op (answer_of op (slice_index words (word_of op)))).width * v.shape.knobs.expand
+      → walks_at (changed v op (answer_of op (slice_index words (word_of op)))) x
+      ≤ (changed v op (answer_of op (slice_index words (word_of op)))).width * v.shape.knobs.expand
   unfolding looked wrote published added_at
   at-changed Draw x fits begin old =
-      omega (arith, old, drew_same (λ z. walks_at z x) v (slice_index words 1) refl refl, drew_same (λ z. z.width * v.shape.knobs.expand) v (slice_index words 1) refl refl)
+      omega (
+        arith,
+        old,
+        drew_same (λ z. walks_at z x) v (slice_index words 1) refl refl,
+        drew_same (λ z. z.width * v.shape.knobs.expand) v (slice_index words 1) refl refl,
+      )
   at-changed (Look i) x fits begin old = old
   at-changed (Claim size) x fits begin old =
-      omega (arith, old, claimed_same (λ z. walks_at z x) v size (slice_index words 0) refl refl, claimed_same (λ z. z.width * v.shape.knobs.expand) v size (slice_index words 0) refl refl)
+      omega (
+        arith,
+        old,
+        claimed_same (λ z. walks_at z x) v size (slice_index words 0) refl refl,
+        claimed_same (λ z. z.width * v.shape.knobs.expand) v size (slice_index words 0) refl refl,
+      )
   at-changed (Write i value) x fits begin old = old
   at-changed (Publish l c) x fits begin old = old
   at-changed (Add i won) x fits begin old = at-add (record { word = i; won = won }) x fits begin old
@@ -196,7 +207,17 @@ module _ (bs : List LinkedBlock) (words : List ℕ) (views : List SeatView) (id 
       (known-state bs words views id v b id v x b.at may.known) in
       absurd (omega (arith, none, ap (λ (p : Position). length (empties_of p)) same, some-empty (node_board v.shape bs x) c empty)))
       (λ (full : v.full ≡ true).
-      absurd (omega (arith, room, b.live, b.state.widths.full (omega (arith, b.live, total_at full_width views id v b.at, ap (λ (t : Bool). cond t v.width 0) full)))))
+      absurd (omega (
+        arith,
+        room,
+        b.live,
+        b.state.widths.full (omega (
+          arith,
+          b.live,
+          total_at full_width views id v b.at,
+          ap (λ (t : Bool). cond t v.width 0) full,
+        )),
+      )))
       t)
       may.ends
 

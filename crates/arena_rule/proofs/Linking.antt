@@ -202,7 +202,11 @@ module _ (bs : List LinkedBlock) (words : List ℕ) (views : List SeatView) (id 
         let next : next_in (set words l c) ≡ next_in words
         = get_or-set_other words l 0 c 0 (λ e. omega (arith, e, fits.link)) in
         let some : 0 < length new.cells
-        = omega (arith, ap (λ (t : Bool). length (cond t (allowed_cells v.shape) (empties_of (node_board v.shape v.known x)))) (ne_eqb x r fits.may.below), fits.may.some) in
+        = omega (
+          arith,
+          ap (λ (t : Bool). length (cond t (allowed_cells v.shape) (empties_of (node_board v.shape v.known x)))) (ne_eqb x r fits.may.below),
+          fits.may.some,
+        ) in
         record {
           blocks = record {
             order = (follows, old.blocks.order);

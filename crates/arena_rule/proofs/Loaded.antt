@@ -59,7 +59,8 @@ pub through-same : (s : Setting) (bs ks ls : List LinkedBlock) (x : ℕ) (walks 
 through-same s bs ks ls x walks order k l m n
     = walks-same (λ q. cond (is_on s ks x (leaf_in q.value)) 1 0)
     (λ q. cond (is_on s ls x (leaf_in q.value)) 1 0) walks
-    (λ q c. ap {B = ℕ} (λ (t : Bool). cond t 1 0) (on-linked s bs ks x (leaf_in q.value) order k (m q c) ∙ sym (on-linked s bs ls x (leaf_in q.value) order l (n q c))))
+    (λ q c. ap {B = ℕ} (λ (t : Bool). cond t 1 0) (on-linked s bs ks x (leaf_in q.value) order k (m q c)
+    ∙ sym (on-linked s bs ls x (leaf_in q.value) order l (n q c))))
 
 -- a view that knows more
 known-loaded : (bs : List LinkedBlock) (words : List ℕ) (v : SeatView) (ks : List LinkedBlock)
@@ -71,7 +72,12 @@ known-loaded : (bs : List LinkedBlock) (words : List ℕ) (v : SeatView) (ks : L
 known-loaded bs words v ks order kn ln more leaves h = record {
   counts = λ w n e. let c = h.counts w n e in (c.0, more c.0 c.1, c.2);
   less = λ x n k e. h.less x n (before x n k e) e;
-  own = λ x n k e. omega (arith, h.own x n (before x n k e) e, through-same v.shape bs v.known ks x v.walks order kn ln leaves (λ q c. more (leaf_in q.value) (leaves q c)));
+  own = λ x n k e. omega (
+    arith,
+    h.own x n (before x n k e) e,
+    through-same v.shape bs v.known ks x v.walks order kn ln leaves
+        (λ q c. more (leaf_in q.value) (leaves q c)),
+  );
 }
   where
     r : ℕ
@@ -107,7 +113,12 @@ module _ (bs : List LinkedBlock) (words : List ℕ) (views : List SeatView) (id 
   add-more : (i j n : ℕ) → j < length words
       → slice_index words j ≤ slice_index (set words i (slice_index words i + n)) j
   add-more i j n l = dite (ℕ_discrete j i)
-      (λ (e : j ≡ i). omega (arith, ap (slice_index words) e, ap (slice_index (set words i (slice_index words i + n))) e, get_or-set_same words i (slice_index words i + n) 0 (omega (arith, e))))
+      (λ (e : j ≡ i). omega (
+        arith,
+        ap (slice_index words) e,
+        ap (slice_index (set words i (slice_index words i + n))) e,
+        get_or-set_same words i (slice_index words i + n) 0 (omega (arith, e)),
+      ))
       (λ (e : j ≢ i). omega (arith, get_or-set_other words i j (slice_index words i + n) 0 e))
 
   -- the visits of a node never fall
@@ -183,7 +194,11 @@ module _ (bs : List LinkedBlock) (words : List ℕ) (views : List SeatView) (id 
             (λ (q : load_of v.loads (x + TALLY_WORD) ≡ Some n). h.less x n k q)
             (found (i == x + TALLY_WORD) (x + TALLY_WORD) n refl e);
         own = λ x n k e. ⊎_elim
-            (λ (q : (i ≡ x + TALLY_WORD) × (n ≡ slice_index words (x + TALLY_WORD))). omega (arith, ap visits_in q.1, (answers-tally bs words views id v b x k).own))
+            (λ (q : (i ≡ x + TALLY_WORD) × (n ≡ slice_index words (x + TALLY_WORD))). omega (
+              arith,
+              ap visits_in q.1,
+              (answers-tally bs words views id v b x k).own,
+            ))
             (λ (q : load_of v.loads (x + TALLY_WORD) ≡ Some n). h.own x n k q)
             (found (i == x + TALLY_WORD) (x + TALLY_WORD) n refl e);
       }

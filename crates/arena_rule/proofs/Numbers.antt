@@ -69,7 +69,11 @@ pub contains-append : (x : Walked) (a b : List Walked) → Contains (a ++ b) x
 contains-append x [] b c = inr c
 contains-append x (w ∷ a) b c = ⊎_elim
     (λ (e : w ≡ x). inl (0, omega arith, e))
-    (λ (d : Contains (a ++ b) x). ⊎_elim (λ (h : Contains a x). inl (suc h.0, (let l = h.1 in omega arith), h.2)) (λ (h : Contains b x). inr h) (contains-append x a b d))
+    (λ (d : Contains (a ++ b) x). ⊎_elim (λ (h : Contains a x). inl (
+      suc h.0,
+      (let l = h.1 in omega arith),
+      h.2,
+    )) (λ (h : Contains b x). inr h) (contains-append x a b d))
     (contains-cons w x (a ++ b) c)
 
 -- a record's leaf and winner

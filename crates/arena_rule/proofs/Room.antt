@@ -152,7 +152,8 @@ module _ (bs : List LinkedBlock) (words : List ℕ) (views : List SeatView) (id 
 
   -- a claim inside the area counts in the view, and so does one past its end, once
   claimed : (u : SeatView) (n : ℕ) → FitsClaim v n → u.width ≡ v.width → u.known ≡ v.known
-      → ((u.claimed ≡ v.claimed + n) × (words_held u.held ≡ n) × (u.full ≡ v.full)) ⊎ ((u.claimed ≡ v.claimed) × (words_held u.held ≡ words_held v.held) × (u.full ≡ true))
+      → ((u.claimed ≡ v.claimed + n) × (words_held u.held ≡ n) × (u.full ≡ v.full))
+      ⊎ ((u.claimed ≡ v.claimed) × (words_held u.held ≡ words_held v.held) × (u.full ≡ true))
       → Room v.shape bs (words_after words (Claim n)) (set views id u)
   claimed u n fits w k cases =
       let A : Type 0 = (u.claimed ≡ v.claimed + n) × (words_held u.held ≡ n) × (u.full ≡ v.full) in
@@ -193,7 +194,11 @@ module _ (bs : List LinkedBlock) (words : List ℕ) (views : List SeatView) (id 
       let B : Type 0 = (u.claimed ≡ v.claimed) × (words_held u.held ≡ words_held v.held)
       × (u.full ≡ true) in
       let cases : A ⊎ B = ⊎_elim
-      (λ (c : (x + n ≤ end_of v.shape) × (claimed_at v n x ≡ record v { held = Some (record { start = x; size = n; written = [] }); claimed = v.claimed + n })).
+      (λ (c : (x + n ≤ end_of v.shape) × (claimed_at v n x ≡ record v {
+        held = Some (record { start = x; size = n; written = [] });
+        claimed = v.claimed
+            + n;
+      })).
       inl (ap (λ (z : SeatView). z.claimed) c.1, ap (λ (z : SeatView). words_held z.held) c.1, ap (λ (z : SeatView). z.full) c.1))
       (λ (c : (end_of v.shape < x + n) × (claimed_at v n x ≡ record v { full = true })).
       inr (ap (λ (z : SeatView). z.claimed) c.1, ap (λ (z : SeatView). words_held z.held) c.1, ap (λ (z : SeatView). z.full) c.1))
@@ -293,7 +298,10 @@ module _ (bs : List LinkedBlock) (words : List ℕ) (views : List SeatView) (id 
           let ne : slice_index words l ≢ 0
           = λ z. clash (slice_index words l == 0) (eq-eqb (slice_index words l) 0 z) e in
           room-told l c fits bs (slice_index words l) ne (found ne) (λ ks. omega arith)
-          (with_word l (slice_index words l) (record v { known = known_after v x (slice_index words l); held = None })) (words_after words (Publish l c)) refl refl refl refl refl next
+          (with_word l (slice_index words l) (record v {
+            known = known_after v x (slice_index words l);
+            held = None;
+          })) (words_after words (Publish l c)) refl refl refl refl refl next
 
   held-more : (o : Option HeldBlock) (value : ℕ)
       → words_held (option_map (written_more value) o) ≡ words_held o

@@ -60,7 +60,12 @@ module _ (bs : List LinkedBlock) (words : List ℕ) (views : List SeatView) (id 
       let ended : sum_by ended_of (views_split views id v part) ≡ sum_by ended_of views
       = omega (arith, total_split ended_of views id v l r b.at) in
       let full : sum_by full_width (views_split views id v part) ≡ sum_by full_width views
-      = omega (arith, total_split full_width views id v l r b.at, ap (λ (t : Bool). cond t v.width 0) can.nothing.full, ap (λ (t : Bool). cond t (v.width - part) 0) can.nothing.full) in
+      = omega (
+        arith,
+        total_split full_width views id v l r b.at,
+        ap (λ (t : Bool). cond t v.width 0) can.nothing.full,
+        ap (λ (t : Bool). cond t (v.width - part) 0) can.nothing.full,
+      ) in
       record {
         each = each-split (HasWidth v.shape) views id l r (λ j x _ e. old.each j x e)
             record { shape = refl; ended = omega (arith, can.nothing.ended); spent = λ z. absurd (omega (arith, can.kept, z)) }
@@ -147,14 +152,20 @@ module _ (bs : List LinkedBlock) (words : List ℕ) (views : List SeatView) (id 
       record {
         each = each-join (HasWidth v.shape) views id other (joined v w) (spent_view v.shape)
             (λ j x e. old.each j x e)
-            record { shape = refl; ended = omega (arith, (old.each id v b.at).ended, (old.each other w o.at).ended); spent = λ z. absurd (omega (arith, z, b.live)) }
+            record {
+              shape = refl;
+              ended = omega (arith, (old.each id v b.at).ended, (old.each other w o.at).ended);
+              spent =
+                  λ z. absurd (omega (arith, z, b.live));
+            }
             record { shape = refl; ended = omega arith; spent = λ z. refl };
         sum = joined-sum width_of other w o refl refl ∙ old.sum;
         ticket = omega (arith, ended, old.ticket);
         ended = λ h. old.ended (omega (arith, h, ended));
         next = omega (arith, total, wide, old.next);
         full = λ h. old.full
-            (some-full v.full w.full v.width w.width (sum_by full_width views) (sum_by full_width (views_joined views id v other w)) b.live o.live total two h);
+            (some-full v.full w.full v.width w.width (sum_by full_width views) (sum_by full_width (views_joined views id v other w)) b.live o.live total two
+            h);
       }
     where
       some-full : (s t : Bool) (a c n m : ℕ) → 0 < a → 0 < c
@@ -179,7 +190,8 @@ module _ (bs : List LinkedBlock) (words : List ℕ) (views : List SeatView) (id 
         right = each-join
             (λ y. (q : Walked) → Contains y.walks q → IsRight v.shape bs q) views id other
             (joined v w) (spent_view v.shape) (λ j y e. old.right j y e)
-            (λ q c. ⊎_elim (λ (h : Contains v.walks q). old.right id v b.at q h) (λ (h : Contains w.walks q). old.right other w o.at q h) (contains-append q v.walks w.walks c))
+            (λ q c. ⊎_elim (λ (h : Contains v.walks q). old.right id v b.at q h) (λ (h : Contains w.walks q). old.right other w o.at q h)
+            (contains-append q v.walks w.walks c))
             (λ q c. absurd (no-walk q c));
       }
 
@@ -202,7 +214,8 @@ module _ (bs : List LinkedBlock) (words : List ℕ) (views : List SeatView) (id 
         leaves = λ q c. ⊎_elim
             (λ (h : Contains v.walks q). node-first (root_at v.shape) v.known w.known (leaf_in q.value) (mine.leaves q h))
             (λ (h : Contains w.walks q). node-second (root_at v.shape) v.known w.known (leaf_in q.value)
-            (subst (λ (s : Setting). is_node (root_at s) w.known (leaf_in q.value) ≡ true) (shape-of-each bs words views id v b other w o.at) (theirs.leaves q h)))
+            (subst (λ (s : Setting). is_node (root_at s) w.known (leaf_in q.value)
+            ≡ true) (shape-of-each bs words views id v b other w o.at) (theirs.leaves q h)))
             (contains-append q v.walks w.walks c);
       }
       record {
@@ -263,7 +276,8 @@ module _ (s : Setting) (views : List SeatView) (setting : IsSetting s)
   pub tickets-first : Tickets s (opening_blocks s) (opening_words s) views
   tickets-first = record {
     once = λ k. total_none (times_drawn k) views
-        (λ j v e. let f = first.each j v e in omega (arith, ap (in_hand k) f.1.ticket, ap (times_walked k) f.1.walks)) ∙ sym (ap (λ (z : ℕ). due k z s.knobs.playouts) ticket ∙ nothing k s.knobs.playouts);
+        (λ j v e. let f = first.each j v e in omega (arith, ap (in_hand k) f.1.ticket, ap (times_walked k) f.1.walks))
+        ∙ sym (ap (λ (z : ℕ). due k z s.knobs.playouts) ticket ∙ nothing k s.knobs.playouts);
     records = λ k l. opening-low s (2 + k) setting (omega arith) (omega (arith, l))
         ∙ sym (total_none (value_noted k) views (λ j v e. ap (value_walked k) (first.each j v e).1.walks));
     right = λ j v e q c. absurd

@@ -95,7 +95,16 @@ module _ (bs : List LinkedBlock) (words : List ℕ) (views : List SeatView) (id 
         );
         claimed = each-join
             (λ y. y.claimed ≤ y.width * words_known v.shape bs y + words_held y.held) views id other both (spent_view v.shape) room.claimed
-            (omega (arith, room.claimed id v b.at, room.claimed other w o.at, mine, theirs, left, right, add-mul v.width w.width (words_known v.shape bs both)))
+            (omega (
+              arith,
+              room.claimed id v b.at,
+              room.claimed other w o.at,
+              mine,
+              theirs,
+              left,
+              right,
+              add-mul v.width w.width (words_known v.shape bs both),
+            ))
             (omega arith);
       }
     where

@@ -47,7 +47,8 @@ module _ (bs : List LinkedBlock) (words : List ℕ) (views : List SeatView) (id 
       ⊎_elim
       (λ (t : (i ≡ id) × (next ≡ u)).
       kept next i (word_of op) (put op x) copy v.whole refl
-      (ap (λ (n : ℕ). option_map (λ ws. set ws (word_of op) n) v.whole) (sym (put-answered op x)) ∙ (sym (whole-after v op (answer_of op x)) ∙ (ap (λ (z : SeatView). z.whole) t.1 ∙ w)))
+      (ap (λ (n : ℕ). option_map (λ ws. set ws (word_of op) n) v.whole) (sym (put-answered op x))
+      ∙ (sym (whole-after v op (answer_of op x)) ∙ (ap (λ (z : SeatView). z.whole) t.1 ∙ w)))
       t.0)
       (λ (t : (i ≢ id) × (get_elem? views i ≡ some u)). absurd (mine i u copy t.0 t.1 w))
       (at_set views id i next u e)

@@ -61,7 +61,8 @@ module _ (bs : List LinkedBlock) (words : List ℕ) (views : List SeatView) (id 
       by : (o : Option Flight) → v.adds ≡ o → IsNext v fits.number o a → NextAdd bs v fits.number a
       by None e n =
           let at : a.word - TALLY_WORD ≡ n.0 = let q = n.1 in omega arith in
-          let same : walk_adds v.shape v.known fits.number n.0 ≡ walk_adds v.shape bs fits.number n.0 = known-adds bs words views id v b id v fits.number n.0 b.at n.2.known in
+          let same : walk_adds v.shape v.known fits.number n.0 ≡ walk_adds v.shape bs fits.number n.0 = known-adds bs words views id v b id v fits.number n.0
+          b.at n.2.known in
           record {
             leaf = n.0;
             made = 0;
@@ -72,7 +73,8 @@ module _ (bs : List LinkedBlock) (words : List ℕ) (views : List SeatView) (id 
           }
       by (Some f) e n =
           let known = ((b.state.in_hand id v b.at).flight fits.number f fits.ticket e).known in
-          let same : walk_adds v.shape v.known fits.number f.leaf ≡ walk_adds v.shape bs fits.number f.leaf = known-adds bs words views id v b id v fits.number f.leaf b.at known in
+          let same : walk_adds v.shape v.known fits.number f.leaf
+          ≡ walk_adds v.shape bs fits.number f.leaf = known-adds bs words views id v b id v fits.number f.leaf b.at known in
           record {
             leaf = f.leaf;
             made = f.made;
@@ -89,8 +91,20 @@ module _ (bs : List LinkedBlock) (words : List ℕ) (views : List SeatView) (id 
   sums-more u words' more c d r =
       let old : Sums v.shape bs words views = b.state.sums in
       record {
-        tallies = λ x n. omega (arith, d x 2 n (omega arith) (omega arith), old.tallies x n, total_set (amount_counted v.shape bs (x + 2)) views id v u b.at, c (x + 2));
-        seen = λ x n ne. omega (arith, d x 3 n (omega arith) (omega arith), old.seen x n ne, total_set (amount_counted v.shape bs (x + 3)) views id v u b.at, c (x + 3));
+        tallies = λ x n. omega (
+          arith,
+          d x 2 n (omega arith) (omega arith),
+          old.tallies x n,
+          total_set (amount_counted v.shape bs (x + 2)) views id v u b.at,
+          c (x + 2),
+        );
+        seen = λ x n ne. omega (
+          arith,
+          d x 3 n (omega arith) (omega arith),
+          old.seen x n ne,
+          total_set (amount_counted v.shape bs (x + 3)) views id v u b.at,
+          c (x + 3),
+        );
         root = omega (arith, d (root_at v.shape) 3 (root_node (root_at v.shape) bs) (omega arith) (omega arith), old.root, r);
       }
 
@@ -172,7 +186,8 @@ module _ (bs : List LinkedBlock) (words : List ℕ) (views : List SeatView) (id 
         amount-next w n.made all a n.next,
       ))
       (λ x j m _ l. word-more i (x + j) (amount_of won) (omega (arith, b.state.long, (node-range bs words views id v b x j m l).1)))
-      (other (i == root) (adds_in root (take n.made all)) (adds_in root all) (adds-before root n.made all a n.next) (adds-root v.shape bs b.state.linked.blocks.order k n.leaf))
+      (other (i == root) (adds_in root (take n.made all)) (adds_in root all) (adds-before root n.made all a n.next)
+      (adds-root v.shape bs b.state.linked.blocks.order k n.leaf))
     where
       other : (t : Bool) (m c : ℕ) → m + cond t 1 0 ≤ c → c ≡ 0 → cond t (amount_of won) 0 ≡ 0
       other true m c l z = absurd (omega (arith, l, z))
@@ -184,7 +199,8 @@ module _ (bs : List LinkedBlock) (words : List ℕ) (views : List SeatView) (id 
     walks = λ q d. (b.state.tickets.right j u e q d).node;
     flight = λ k f t a.
         known-node bs words views id v b j u f.leaf e
-        (subst (λ (s : Setting). is_node (root_at s) u.known f.leaf ≡ true) (shape-of-each bs words views id v b j u e) ((b.state.in_hand j u e).flight k f t a).known);
+        (subst (λ (s : Setting). is_node (root_at s) u.known f.leaf
+        ≡ true) (shape-of-each bs words views id v b j u e) ((b.state.in_hand j u e).flight k f t a).known);
   }
 
   -- the tallies and seen words of the told block are 0
@@ -198,7 +214,8 @@ module _ (bs : List LinkedBlock) (words : List ℕ) (views : List SeatView) (id 
       let p = has-at d x (ap (λ (z : LinkedBlock). has_node z x) (sym told) ∙ h) in
       let held = b.state.held id v b.at fits.block fits.held in
       let many : length d.cells ≡ empties_at v fits.node
-      = ap (λ (t : Bool). length (cond t (allowed_cells v.shape) (empties_of (node_board v.shape v.known fits.node)))) (ne_eqb fits.node (root_at v.shape) fits.may.below) in
+      = ap (λ (t : Bool). length (cond t (allowed_cells v.shape) (empties_of (node_board v.shape v.known fits.node))))
+      (ne_eqb fits.node (root_at v.shape) fits.may.below) in
       let j : ℕ = 4 + 4 * p.0 + i in
       let is : x + i ≡ fits.block.start + j = omega (arith, p.2, fits.start) in
       let inside : j < fits.block.size = omega (arith, p.1, many, fits.may.fits) in

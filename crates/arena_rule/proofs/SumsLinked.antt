@@ -38,7 +38,8 @@ walks-none f (q ∷ walks) h = omega (arith, sum_by-cons f q walks, h q, walks-n
 
 -- the adds made are the same over two lists of blocks if the walk's are
 pub made-same : (s : Setting) (ks ls : List LinkedBlock) (ticket : Option ℕ) (adds : Option Flight)
-    → ((k : ℕ) (f : Flight) → ticket ≡ Some k → adds ≡ Some f → walk_adds s ks k f.leaf ≡ walk_adds s ls k f.leaf) → adds_made s ks ticket adds ≡ adds_made s ls ticket adds
+    → ((k : ℕ) (f : Flight) → ticket ≡ Some k → adds ≡ Some f → walk_adds s ks k f.leaf ≡ walk_adds s ls k f.leaf) → adds_made s ks ticket adds
+    ≡ adds_made s ls ticket adds
 made-same s ks ls None adds h = refl
 made-same s ks ls (Some k) None h = refl
 made-same s ks ls (Some k) (Some f) h = ap (take f.made) (h k f refl refl)

@@ -97,9 +97,27 @@ module _ (bs : List LinkedBlock) (words : List ℕ) (views : List SeatView) (id 
       record {
         once = λ k. ⊎_elim
             (λ (c : (x < v.shape.knobs.playouts) × (u.ticket ≡ Some x)).
-            omega (arith, total_set (times_drawn k) views id v u b.at, ap (in_hand k) c.1, ap (in_hand k) fits.ticket, ap (times_walked k) w, old.once k, ap (λ (z : ℕ). due k z v.shape.knobs.playouts) n, next-due k x v.shape.knobs.playouts c.0))
+            omega (
+              arith,
+              total_set (times_drawn k) views id v u b.at,
+              ap (in_hand k) c.1,
+              ap (in_hand k) fits.ticket,
+              ap (times_walked k) w,
+              old.once k,
+              ap (λ (z : ℕ). due k z v.shape.knobs.playouts) n,
+              next-due k x v.shape.knobs.playouts c.0,
+            ))
             (λ (c : (v.shape.knobs.playouts ≤ x) × (u.ticket ≡ None)).
-            omega (arith, total_set (times_drawn k) views id v u b.at, ap (in_hand k) c.1, ap (in_hand k) fits.ticket, ap (times_walked k) w, old.once k, ap (λ (z : ℕ). due k z v.shape.knobs.playouts) n, past-due k x v.shape.knobs.playouts c.0))
+            omega (
+              arith,
+              total_set (times_drawn k) views id v u b.at,
+              ap (in_hand k) c.1,
+              ap (in_hand k) fits.ticket,
+              ap (times_walked k) w,
+              old.once k,
+              ap (λ (z : ℕ). due k z v.shape.knobs.playouts) n,
+              past-due k x v.shape.knobs.playouts c.0,
+            ))
             cases;
         records = λ k l. r k l
             ∙ omega (arith, old.records k l, total_set (value_noted k) views id v u b.at, ap (value_walked k) w);
@@ -176,10 +194,17 @@ module _ (bs : List LinkedBlock) (words : List ℕ) (views : List SeatView) (id 
             ∙ ap (λ (z : ℕ). sum_by (value_noted z) (set views id u)) (sym e))
             (λ (e : j ≢ k).
             get_or-set_other words (2 + k) (2 + j) value 0 (λ q. e (omega (arith, q)))
-            ∙ omega (arith, old.records j l, total_set (value_noted j) views id v u b.at, value-cons j w v.walks, ap (λ (t : Bool). cond t value 0) (ne_eqb k j (λ q. e (sym q)))));
+            ∙ omega (
+              arith,
+              old.records j l,
+              total_set (value_noted j) views id v u b.at,
+              value-cons j w v.walks,
+              ap (λ (t : Bool). cond t value 0) (ne_eqb k j (λ q. e (sym q))),
+            ));
         right = each-set (λ y. (q : Walked) → Contains y.walks q → IsRight v.shape bs q) views id u
             (λ j y _ e. old.right j y e)
-            (λ q c. ⊎_elim (λ (e : w ≡ q). subst (IsRight v.shape bs) e (new fits)) (λ (d : Contains v.walks q). old.right id v b.at q d) (contains-cons w q v.walks c));
+            (λ q c. ⊎_elim (λ (e : w ≡ q). subst (IsRight v.shape bs) e (new fits)) (λ (d : Contains v.walks q). old.right id v b.at q d)
+            (contains-cons w q v.walks c));
       }
     where
       new : FitsNote v k value → IsRight v.shape bs (record { number = k; value = value })

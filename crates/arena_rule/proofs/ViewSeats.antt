@@ -25,7 +25,12 @@ module _ (v : SeatView) (iv : IsView v) where
     setting = iv.setting;
     width = omega (arith, can.kept);
     known = iv.known;
-    order = ⊎_elim (λ (j : IsJoined v). absurd (let e = j.ended in let m = j.more in omega (arith, e, m, can.nothing.ended))) (λ (o : InOrder (root_at v.shape) v.known). inr o) iv.order;
+    order = ⊎_elim (λ (j : IsJoined v). absurd (let e = j.ended in let m = j.more in omega (
+      arith,
+      e,
+      m,
+      can.nothing.ended,
+    ))) (λ (o : InOrder (root_at v.shape) v.known). inr o) iv.order;
     ticket = iv.ticket;
     held = iv.held;
     apart = iv.apart;
@@ -37,7 +42,12 @@ module _ (v : SeatView) (iv : IsView v) where
     setting = iv.setting;
     width = can.given;
     known = iv.known;
-    order = ⊎_elim (λ (j : IsJoined v). absurd (let e = j.ended in let m = j.more in omega (arith, e, m, can.nothing.ended))) (λ (o : InOrder (root_at v.shape) v.known). inr o) iv.order;
+    order = ⊎_elim (λ (j : IsJoined v). absurd (let e = j.ended in let m = j.more in omega (
+      arith,
+      e,
+      m,
+      can.nothing.ended,
+    ))) (λ (o : InOrder (root_at v.shape) v.known). inr o) iv.order;
     ticket = λ k e. absurd (none-some e);
     held = λ h e. absurd (none-some e);
     apart = λ i h. absurd (false-true h);
@@ -69,7 +79,8 @@ module _ (s : Setting) (ls : List LinkedBlock) (told : AreTold s ls) where
       (λ (h : has_node b x ≡ false).
       ap (λ (c : Bool). cond c (step b x (up root step (ks ++ ls) b.parent)) (up root step (ks ++ ls) x)) h
       ∙ behind-up root step ks x t.1
-      (⊎_elim (λ (u : has_node b x ≡ true). absurd (clash (has_node b x) u h)) (λ (u : is_node (root_at s) ks x ≡ true). u) (or_cases (has_node b x) (is_node (root_at s) ks x) n))
+      (⊎_elim (λ (u : has_node b x ≡ true). absurd (clash (has_node b x) u h)) (λ (u : is_node (root_at s) ks x
+      ≡ true). u) (or_cases (has_node b x) (is_node (root_at s) ks x) n))
       ∙ sym (ap (λ (c : Bool). cond c (step b x (up root step ks b.parent)) (up root step ks x)) h))
       (cases_Bool (has_node b x))
 

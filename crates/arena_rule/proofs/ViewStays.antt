@@ -54,7 +54,16 @@ module _ (v : SeatView) (iv : IsView v) where
       (λ (g : Grows v x b). let m = may g.known g.vacant g.some in subst (KnownStays v) (sym g.is) (record {
         told = (record { parent = g.known; told = refl; inside = (m.1, m.2) }, iv.known);
         order = ⊎_elim (λ (j : IsJoined v). inl j)
-            (λ (o : InOrder (root_at v.shape) v.known). inr (record { parent = g.known; vacant = g.vacant; above = m.0; clear = m.3; root = omega (arith, m.1) }, o))
+            (λ (o : InOrder (root_at v.shape) v.known). inr (
+              record {
+                parent = g.known;
+                vacant = g.vacant;
+                above = m.0;
+                clear = m.3;
+                root = omega (arith, m.1);
+              },
+              o,
+            ))
             iv.order;
       }))
       (λ (e : known_after v x b ≡ v.known). subst (KnownStays v) (sym e) (record { told = iv.known; order = iv.order }))
@@ -109,7 +118,8 @@ module _ (v : SeatView) (iv : IsView v) where
       stays (after v (Look i) n) refl refl refl
       (known-stays x n (λ k z ne. link-known x n (link-may x n (link k) z ne)))
       iv.ticket iv.held
-      (λ j h. still-apart x n j (λ k z ne. false_from_ne_true (covers j (told_below v x n)) (λ c. clash (is_held v.held j) h ((link-may x n (link k) z ne).held j c))) (iv.apart j h))
+      (λ j h. still-apart x n j (λ k z ne. false_from_ne_true (covers j (told_below v x n))
+      (λ c. clash (is_held v.held j) h ((link-may x n (link k) z ne).held j c))) (iv.apart j h))
       (λ f e. known-more v x n f.leaf (iv.leaf f e))
     where
       at : (i : ℕ) → is_known v (i - 1) ≡ true → i ≡ (i - 1) + 1
@@ -141,7 +151,8 @@ module _ (v : SeatView) (iv : IsView v) where
             omega (arith, in_area.0, fits.start),
             omega (arith, in_area.1, fits.start, wide),
             λ i h. let q = covers_of i (told_below v x c) h in
-                iv.apart i (ap (λ (o : Option HeldBlock). is_held o i) fits.held ∙ in-range fits.block.start fits.block.size i (omega (arith, q.0, fits.start)) (omega (arith, q.1, fits.start, wide))),
+                iv.apart i (ap (λ (o : Option HeldBlock). is_held o i) fits.held
+                ∙ in-range fits.block.start fits.block.size i (omega (arith, q.0, fits.start)) (omega (arith, q.1, fits.start, wide))),
           )
 
   stays-draw : (x : ℕ) → FitsDraw v → IsView (after v Draw x)
@@ -158,7 +169,8 @@ module _ (v : SeatView) (iv : IsView v) where
       (λ (c : (x < v.shape.knobs.playouts) × (drew v x ≡ record v { ticket = Some x })).
       let is : x ≡ k = some-eq (sym (ap (λ (z : SeatView). z.ticket) c.1) ∙ e) in let l = c.0 in
       omega (arith, is, l))
-      (λ (c : (v.shape.knobs.playouts ≤ x) × (drew v x ≡ record v { ended = 1 })). absurd (none-some (sym (ap (λ (z : SeatView). z.ticket) c.1 ∙ fits.ticket) ∙ e)))
+      (λ (c : (v.shape.knobs.playouts ≤ x) × (drew v x ≡ record v { ended = 1 })). absurd (none-some (sym (ap (λ (z : SeatView). z.ticket) c.1 ∙ fits.ticket)
+      ∙ e)))
       (drew_cases v x) in
       record {
         setting = setting;
@@ -166,7 +178,8 @@ module _ (v : SeatView) (iv : IsView v) where
         known = subst (λ (s : Setting). AreTold s u.known) (sym sh)
             (subst (AreTold v.shape) (sym kn) iv.known);
         order = ⊎_elim (λ (j : IsJoined v). absurd (let m = j.more in omega (arith, fits.width, m)))
-            (λ (o : InOrder (root_at v.shape) v.known). inr (subst (λ (s : Setting). InOrder (root_at s) u.known) (sym sh) (subst (InOrder (root_at v.shape)) (sym kn) o))) iv.order;
+            (λ (o : InOrder (root_at v.shape) v.known). inr (subst (λ (s : Setting). InOrder (root_at s) u.known) (sym sh)
+            (subst (InOrder (root_at v.shape)) (sym kn) o))) iv.order;
         ticket = λ k e. subst (λ (s : Setting). k < s.knobs.playouts) (sym sh) (hand k e);
         held = λ h e. absurd (none-some (sym (he ∙ fits.held) ∙ e));
         apart = λ i h. absurd
@@ -184,7 +197,11 @@ module _ (v : SeatView) (iv : IsView v) where
       let ad : u.adds ≡ v.adds = claimed_same (λ z. z.adds) v s x refl refl in
       let block : HeldBlock = record { start = x; size = s; written = [] } in
       let cases : ((x + s ≤ end_of v.shape) × (u.held ≡ Some block)) ⊎ (u.held ≡ None) = ⊎_elim
-      (λ (c : (x + s ≤ end_of v.shape) × (claimed_at v s x ≡ record v { held = Some (record { start = x; size = s; written = [] }); claimed = v.claimed + s })).
+      (λ (c : (x + s ≤ end_of v.shape) × (claimed_at v s x ≡ record v {
+        held = Some (record { start = x; size = s; written = [] });
+        claimed = v.claimed
+            + s;
+      })).
       inl (c.0, ap (λ (z : SeatView). z.held) c.1))
       (λ (c : (end_of v.shape < x + s) × (claimed_at v s x ≡ record v { full = true })). inr (ap (λ (z : SeatView). z.held) c.1 ∙ fits.held))
       (claimed_cases v s x) in

@@ -95,7 +95,11 @@ module _ (bs : List LinkedBlock) (words : List ℕ) (views : List SeatView) (id 
             (λ (c : (v.shape.knobs.playouts ≤ ticket_in words) × (u.ended ≡ 1)). let e = c.1 in omega (arith, t, e, ended, fits.ended, old.ticket))
             cases;
         ended = λ h. ⊎_elim
-            (λ (c : (ticket_in words < v.shape.knobs.playouts) × (u.ended ≡ v.ended)). let e = c.1 in omega (arith, t, old.ended (omega (arith, h, ended, e))))
+            (λ (c : (ticket_in words < v.shape.knobs.playouts) × (u.ended ≡ v.ended)). let e = c.1 in omega (
+              arith,
+              t,
+              old.ended (omega (arith, h, ended, e)),
+            ))
             (λ (c : (v.shape.knobs.playouts ≤ ticket_in words) × (u.ended ≡ 1)). let l = c.0 in omega (arith, t, l))
             cases;
         next = omega (arith, n, full, old.next);
@@ -157,7 +161,8 @@ module _ (bs : List LinkedBlock) (words : List ℕ) (views : List SeatView) (id 
       let A : Type 0 = (x + size ≤ end_of v.shape) × (u.full ≡ false) in
       let B : Type 0 = (end_of v.shape < x + size) × (u.full ≡ true) in
       let cases : A ⊎ B = ⊎_elim
-      (λ (c : (x + size ≤ end_of v.shape) × (claimed_at v size x ≡ record v { held = Some (record { start = x; size = size; written = [] }); claimed = v.claimed + size })).
+      (λ (c : (x + size ≤ end_of v.shape) × (claimed_at v size x
+      ≡ record v { held = Some (record { start = x; size = size; written = [] }); claimed = v.claimed + size })).
       inl (c.0, ap (λ (z : SeatView). z.full) c.1 ∙ fits.room))
       (λ (c : (end_of v.shape < x + size) × (claimed_at v size x ≡ record v { full = true })). inr (c.0, ap (λ (z : SeatView). z.full) c.1))
       (claimed_cases v size x) in

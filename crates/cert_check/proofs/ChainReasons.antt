@@ -42,13 +42,15 @@ abbrev pub last_reasons : Context → Bool → List ScopedEntry → Option Reaso
 last_reasons c over_cell es =
     told (not (holds_of_chain (λ a b u. true) es)) NoCommonMiddle
     (told (share_cell es) CarriersMeet
-    (told (holds_of_chain (λ a b u. is_cell_in (elements_at c) (other_end a u) b.carrier || is_cell_in (elements_at c) (other_end b u) a.carrier) es) EndInCarrier
+    (told (holds_of_chain (λ a b u. is_cell_in (elements_at c) (other_end a u) b.carrier
+    || is_cell_in (elements_at c) (other_end b u) a.carrier) es) EndInCarrier
     (told (holds_of_chain (λ a b u. is_wrong_middle over_cell (cell_of (elements_at c) u)) es) MiddleKind None)))
 
 by_middle : (c : Context) (over_cell : Bool) (a b : ScopedEntry) (m : Option ℕ)
     → told (not (option_map_or (λ u. true) m false)) NoCommonMiddle
     (told (share_cell (a ∷ b ∷ [])) CarriersMeet
-    (told (option_map_or (λ u. is_cell_in (elements_at c) (other_end a u) b.carrier || is_cell_in (elements_at c) (other_end b u) a.carrier) m false) EndInCarrier
+    (told (option_map_or (λ u. is_cell_in (elements_at c) (other_end a u) b.carrier
+    || is_cell_in (elements_at c) (other_end b u) a.carrier) m false) EndInCarrier
     (told (option_map_or (λ u. is_wrong_middle over_cell (cell_of (elements_at c) u)) m false) MiddleKind None)))
     ≡ chain_reason c over_cell a b m
 by_middle c over_cell a b None = refl
@@ -117,7 +119,8 @@ pub key_gives : (c : Context) (over_cell : Bool) (i j : ℕ) (a b : ScopedEntry)
     → gives c (chain_line over_cell i j) ≡ Some
     (entry_between c Semi (other_end a u) (other_end b u) (with_cell (bit_or a.carrier b.carrier) k))
 key_gives c true i j a b u k o e h q = ap (key_entry c) e
-    ∙ ap (option_and_then (λ v. option_map (λ l. entry_between c Semi (other_end a v) (other_end b v) (with_cell (carriers_of (a ∷ b ∷ [])) l)) (cell_of (elements_at c) v))) h
+    ∙ ap (option_and_then (λ v. option_map (λ l. entry_between c Semi (other_end a v) (other_end b v) (with_cell (carriers_of (a ∷ b ∷ [])) l))
+    (cell_of (elements_at c) v))) h
     ∙ ap (option_map (λ l. entry_between c Semi (other_end a u) (other_end b u) (with_cell (carriers_of (a ∷ b ∷ [])) l))) q
     ∙ ap (λ s. Some (entry_between c Semi (other_end a u) (other_end b u) (with_cell s k)))
     (two_carriers a b)
@@ -134,7 +137,8 @@ and_gives c false i j a b u o e h = ap (and_entry c) e
     ∙ ap (λ s. Some (entry_between c Full (other_end a u) (other_end b u) s)) (two_carriers a b)
 
 -- the same of the entry g between the other ends x and y, with the cells of both carriers
-pub key_given : {c : Context} {o : Bool} {i j u k x y s t : ℕ} {a b : Given} {m q : Option ℕ} {e : PlayerBoard} {g : ScopedEntry} → AreBothNamed c o i j a b → o ≡ true
+pub key_given : {c : Context} {o : Bool} {i j u k x y s t : ℕ} {a b : Given} {m q : Option ℕ} {e : PlayerBoard} {g : ScopedEntry} → AreBothNamed c o i j a b
+    → o ≡ true
     → m ≡ middle_of (entry_of a) (entry_of b) → m ≡ Some u → e ≡ elements_at c → q ≡ cell_of e u
     → q ≡ Some k → x ≡ other_end (entry_of a) u → y ≡ other_end (entry_of b) u
     → s ≡ bit_or a.carrier b.carrier → t ≡ with_cell s k → g ≡ entry_between c Semi x y t

@@ -43,7 +43,11 @@ told_none false r o h = refl
 pub chain_reasons : (c : Context) (over_cell : Bool) (i j : ℕ)
     → reason_against c (Derivation (chain_line over_cell i j)) ≡ told
     (is_bad_reference c (Derivation (chain_line over_cell i j))) BadReference
-    (told (is_wrong_scope c (Derivation (chain_line over_cell i j))) WrongScope (told (has_no_middle c (Derivation (chain_line over_cell i j))) NoCommonMiddle (told (do_carriers_meet c (Derivation (chain_line over_cell i j))) CarriersMeet (told (is_end_in_carrier c (Derivation (chain_line over_cell i j))) EndInCarrier (told (is_middle_wrong c (Derivation (chain_line over_cell i j))) MiddleKind None)))))
+    (told (is_wrong_scope c (Derivation (chain_line over_cell i j))) WrongScope
+    (told (has_no_middle c (Derivation (chain_line over_cell i j))) NoCommonMiddle
+    (told (do_carriers_meet c (Derivation (chain_line over_cell i j))) CarriersMeet
+    (told (is_end_in_carrier c (Derivation (chain_line over_cell i j))) EndInCarrier
+    (told (is_middle_wrong c (Derivation (chain_line over_cell i j))) MiddleKind None)))))
 unfolding reason_against
 chain_reasons c true i j = refl
 chain_reasons c false i j = refl

@@ -25,7 +25,8 @@ none_shared entries common empty is h =
     elim (cases_Bool (share_cell entries)) [
       | inl t ↦ let w = any_out (λ k. list_all (λ a. has a.carrier k) entries) 0 MOST_CELLS t in
           let e : empty ≡ false = false_from_ne_true empty (λ y. true≢false (
-          sym (is w.0 ∙ and_from (nat_lt w.0 MOST_CELLS) (list_all (λ a. has a.carrier w.0) entries) (lt-ltb w.0 MOST_CELLS (omega (arith, w.1))) w.2) ∙ h.0 y w.0
+          sym (is w.0 ∙ and_from (nat_lt w.0 MOST_CELLS) (list_all (λ a. has a.carrier w.0) entries) (lt-ltb w.0 MOST_CELLS (omega (arith, w.1))) w.2)
+          ∙ h.0 y w.0
           )) in
           ap not e ∙ sym t
       | inr f ↦ let e : empty ≡ true = h.1 (λ k. false_from_ne_true (has common k) (λ y.

@@ -57,7 +57,8 @@ numbers_in n kind x y (a ∷ entries) j l = cases (is_of kind x y a) n x y a ent
     cases : (b : Bool) (n x y : ℕ) (a : Entry) (entries : List Entry) (j : ℕ) → is_of kind x y a ≡ b
         → j < length
         (if b then n ∷ numbers_from (suc n) kind x y entries else numbers_from (suc n) kind x y entries)
-        → ((i : ℕ) → i < length (numbers_from (suc n) kind x y entries) → IsListed (suc n) kind x y entries (get_or (numbers_from (suc n) kind x y entries) i 0))
+        → ((i : ℕ) → i < length (numbers_from (suc n) kind x y entries)
+        → IsListed (suc n) kind x y entries (get_or (numbers_from (suc n) kind x y entries) i 0))
         → IsListed n kind x y (a ∷ entries)
         (get_or (if b then n ∷ numbers_from (suc n) kind x y entries else numbers_from (suc n) kind x y entries) j 0)
     cases true n x y a entries zero h l f = let e : n ≡ n + 0 = omega arith in (0, a, e, refl, h)
@@ -108,7 +109,8 @@ pub numbers_counted : (n : ℕ) (kind : Kind) (x y : ℕ) (entries : List Entry)
 numbers_counted n kind x y [] = refl
 numbers_counted n kind x y (a ∷ entries) =
     listed_one (is_of kind x y a) n (numbers_from (suc n) kind x y entries)
-    ∙ (ap (λ v. cond {A = ℕ} (is_of kind x y a) 1 0 + v) (numbers_counted (suc n) kind x y entries) ∙ sym (sum_by-cons (λ (b : Entry). cond {A = ℕ} (is_of kind x y b) 1 0) a entries))
+    ∙ (ap (λ v. cond {A = ℕ} (is_of kind x y a) 1 0 + v) (numbers_counted (suc n) kind x y entries)
+    ∙ sym (sum_by-cons (λ (b : Entry). cond {A = ℕ} (is_of kind x y b) 1 0) a entries))
 
 pub counted_full : (d : StoreData) (kind : Kind) (x y : ℕ)
     → most_of kind ≤ length (numbers_of d kind x y) → IsPairFull d kind x y

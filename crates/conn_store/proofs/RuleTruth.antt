@@ -183,11 +183,13 @@ or_true e entry (a ∷ b ∷ []) m v t r q c =
     (second_of (λ (w : Entry). IsBetween w entry.x entry.y) a b [] r.pairs) in
     concludes e entry (suc (max n p)) Full m v q
     (subst (λ w. IsSureIn (suc (max n p)) Full (StonesLink e entry.x entry.y) s w) (sym c)
-    (sure_by_one (max n p) n p p (StonesLink e entry.x entry.y) s a.carrier b.carrier b.carrier u (omega arith) (omega arith) (omega arith) (linked_kept e entry.x entry.y)
+    (sure_by_one (max n p) n p p (StonesLink e entry.x entry.y) s a.carrier b.carrier b.carrier u (omega arith) (omega arith) (omega arith)
+    (linked_kept e entry.x entry.y)
     (λ k f g h. both_ways (is_in_all (a ∷ b ∷ []) k) (r.free k) (two (has a.carrier k) (has b.carrier k) f g))
     (union_left a.carrier b.carrier) (union_right a.carrier b.carrier)
     (union_right a.carrier b.carrier)
-    (says e a Semi entry.x entry.y (All-head (λ w. IsTrueEntry e w) a (b ∷ []) t) (All-head (λ (w : Entry). w.kind ≡ Semi) a (b ∷ []) r.kinds) (All-head (λ (w : Entry). IsBetween w entry.x entry.y) a (b ∷ []) r.pairs)) y y))
+    (says e a Semi entry.x entry.y (All-head (λ w. IsTrueEntry e w) a (b ∷ []) t) (All-head (λ (w : Entry). w.kind ≡ Semi) a (b
+    ∷ []) r.kinds) (All-head (λ (w : Entry). IsBetween w entry.x entry.y) a (b ∷ []) r.pairs)) y y))
 or_true e entry (a ∷ b ∷ d ∷ []) m v t r q c =
     let s = stones_of e.board e.player in
     let n = members a.carrier 121 in
@@ -197,13 +199,17 @@ or_true e entry (a ∷ b ∷ d ∷ []) m v t r q c =
     let u = bit_or a.carrier w in
     concludes e entry (suc (max n (max p o))) Full m v q
     (subst (λ z. IsSureIn (suc (max n (max p o))) Full (StonesLink e entry.x entry.y) s z) (sym c)
-    (sure_by_one (max n (max p o)) n p o (StonesLink e entry.x entry.y) s a.carrier b.carrier d.carrier u (omega arith) (omega arith) (omega arith) (linked_kept e entry.x entry.y)
+    (sure_by_one (max n (max p o)) n p o (StonesLink e entry.x entry.y) s a.carrier b.carrier d.carrier u (omega arith) (omega arith) (omega arith)
+    (linked_kept e entry.x entry.y)
     (λ k f g h. both_ways (is_in_all (a ∷ b ∷ d ∷ []) k) (r.free k) (three (has a.carrier k) (has b.carrier k) (has d.carrier k) f g h))
     (union_left a.carrier w) (λ k f. union_right a.carrier w k (union_left b.carrier d.carrier k f))
     (λ k f. union_right a.carrier w k (union_right b.carrier d.carrier k f))
-    (says e a Semi entry.x entry.y (All-head (λ w. IsTrueEntry e w) a (b ∷ d ∷ []) t) (All-head (λ (w : Entry). w.kind ≡ Semi) a (b ∷ d ∷ []) r.kinds) (All-head (λ (w : Entry). IsBetween w entry.x entry.y) a (b ∷ d ∷ []) r.pairs))
-    (says e b Semi entry.x entry.y (second_of (λ w. IsTrueEntry e w) a b (d ∷ []) t) (second_of (λ (w : Entry). w.kind ≡ Semi) a b (d ∷ []) r.kinds) (second_of (λ (w : Entry). IsBetween w entry.x entry.y) a b (d ∷ []) r.pairs))
-    (says e d Semi entry.x entry.y (third_of (λ w. IsTrueEntry e w) a b d [] t) (third_of (λ (w : Entry). w.kind ≡ Semi) a b d [] r.kinds) (third_of (λ (w : Entry). IsBetween w entry.x entry.y) a b d [] r.pairs))))
+    (says e a Semi entry.x entry.y (All-head (λ w. IsTrueEntry e w) a (b ∷ d ∷ []) t) (All-head (λ (w : Entry). w.kind ≡ Semi) a (b ∷ d
+    ∷ []) r.kinds) (All-head (λ (w : Entry). IsBetween w entry.x entry.y) a (b ∷ d ∷ []) r.pairs))
+    (says e b Semi entry.x entry.y (second_of (λ w. IsTrueEntry e w) a b (d ∷ []) t) (second_of (λ (w : Entry). w.kind ≡ Semi) a b (d
+    ∷ []) r.kinds) (second_of (λ (w : Entry). IsBetween w entry.x entry.y) a b (d ∷ []) r.pairs))
+    (says e d Semi entry.x entry.y (third_of (λ w. IsTrueEntry e w) a b d [] t) (third_of (λ (w : Entry). w.kind
+    ≡ Semi) a b d [] r.kinds) (third_of (λ (w : Entry). IsBetween w entry.x entry.y) a b d [] r.pairs))))
 or_true e entry (a ∷ b ∷ d ∷ f ∷ ways) m v t r q c
     = elim r.number [ inl h ↦ absurd (omega arith) | inr h ↦ absurd (omega arith) ]
 

@@ -36,7 +36,11 @@ without_itself s j = wo_itself (has s j) (has (without_cell s j) j) j (has_witho
 
 pub with_both : (s t j : ℕ) → IsSubset s t → IsSubset (with_cell s j) (with_cell t j)
 with_both s t j f k h
-    = elim (with_cell-cases s j k h) [ inl o ↦ with_cell-keeps t j k (f k o) | inr e ↦ subst (λ v. has (with_cell t j) v ≡ true) (sym e) (with_cell-here t j) ]
+    = elim (with_cell-cases s j k h) [
+      | inl o ↦ with_cell-keeps t j k (f k o)
+      | inr e ↦ subst (λ v. has (with_cell t j) v
+          ≡ true) (sym e) (with_cell-here t j)
+    ]
 
 without_both : (s t j : ℕ) → IsSubset s t → IsSubset (without_cell s j) (without_cell t j)
 without_both s t j f k h = let p = in_without s j k h in without_keeps t j k (f k p.0) p.1

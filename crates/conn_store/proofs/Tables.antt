@@ -147,7 +147,8 @@ table_more d a table h l m t e f = record {
         ∙ (ap (λ v. is_of a.kind a.x v a) s.1 ∙ of_itself a) in
         let was : h ≡ held_of (numbers_of d a.kind x y) = e
         ∙ (t.numbers a.x a.y h l m ∙ (ap (λ v. held_of (numbers_of d a.kind v a.y)) (sym s.0) ∙ ap (λ v. held_of (numbers_of d a.kind x v)) (sym s.1))) in
-        here ∙ (held_after (numbers_of d a.kind x y) (length d.entries) h was (six a.kind (length (numbers_of d a.kind x y)) (subst (λ (v : Held). v.count < most_of a.kind) was f))
+        here ∙ (held_after (numbers_of d a.kind x y) (length d.entries) h was
+        (six a.kind (length (numbers_of d a.kind x y)) (subst (λ (v : Held). v.count < most_of a.kind) was f))
         ∙ ap held_of (sym (numbers_more d a a.kind x y of)))
     | inr n ↦ get_or-set_other table (number_of_pair a.x a.y) (number_of_pair x y)
         (more_held h (length d.entries)) g n
@@ -463,7 +464,8 @@ pub looked_in : (d : StoreData) (a : Entry) (h : Held) (entries : List Entry) (i
     → IsLooked d a h entries inside → inside ≡ false
     → ¬ (IsCovered d a.kind a.x a.y a.carrier)
 looked_in d a h entries inside k t g = both_ways inside t (k.answer.1
-    (subst (λ v. AnyInside v h a.carrier) (sym k.same_entries) (subst (λ v. AnyInside d.entries v a.carrier) (sym k.held) (covered_in d a.kind a.x a.y a.carrier g))))
+    (subst (λ v. AnyInside v h a.carrier) (sym k.same_entries)
+    (subst (λ v. AnyInside d.entries v a.carrier) (sym k.held) (covered_in d a.kind a.x a.y a.carrier g))))
 
 pub looked_full : (d : StoreData) (a : Entry) (h : Held) (entries : List Entry) (inside : Bool)
     (most : ℕ) → IsLooked d a h entries inside → most ≡ most_of a.kind → h.count ≡ most

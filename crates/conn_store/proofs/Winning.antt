@@ -65,5 +65,6 @@ sure_wins (suc n) Full player p G s c e f j (inr (w, g))
 sure_wins (suc n) Semi player p G s c e f j (inl g)
     = joined_wins player p player (subst (λ v. Joined p.size player v) (sym e) (j s (λ k h. h) g))
 sure_wins (suc n) Semi player p G s c e f j (inr (k, h, g)) = own_wins player p k (f k h)
-    (sure_wins n Full player (placed p player k) G (with_cell s k) (without_cell c k) (placed_own p player k ∙ ap (λ v. with_cell v k) e) (rest_empty p player c k f)
+    (sure_wins n Full player (placed p player k) G (with_cell s k) (without_cell c k) (placed_own p player k
+    ∙ ap (λ v. with_cell v k) e) (rest_empty p player c k f)
     (subst (λ v. Joins G v player (with_cell s k)) (sym (placed_size p player k)) (λ t i r. j t (λ q u. i q (more_stones s k q u)) r)) g)

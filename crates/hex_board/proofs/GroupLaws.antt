@@ -30,7 +30,8 @@ last_counted p a zero = let e : a + 0 ≡ a = omega arith in counted p a zero
 last_counted p a (suc m) =
     let e : (a + 1) + m ≡ a + suc m = omega arith in
     counted p a (suc m)
-    ∙ (moved_over (cond (p a) 1 0) (count_by p (range_with_len (a + 1) m)) (cond (p ((a + 1) + m)) 1 0) (count_by p (range_with_len (a + 1) (suc m))) (last_counted p (a + 1) m)
+    ∙ (moved_over (cond (p a) 1 0) (count_by p (range_with_len (a + 1) m)) (cond (p ((a + 1) + m)) 1 0) (count_by p (range_with_len (a
+    + 1) (suc m))) (last_counted p (a + 1) m)
     ∙ (ap (λ v. (cond (p a) 1 0 + count_by p (range_with_len (a + 1) m)) + cond (p v) 1 0) e ∙ ap (λ v. v + cond (p (a + suc m)) 1 0) (sym (counted p a m))))
 
 upto : (ℕ → Bool) → ℕ → ℕ
@@ -169,7 +170,8 @@ linked_element e a b on l = elim (case_of e a on) [
   | is_second f g t ↦ t
       ∙ sym (of_second e b (not_tied e false a b on l f) (tied_through e true b a on (linked_back e a b on l) g))
   | is_group r f g h m t ↦ t
-      ∙ sym (of_group e b r on (stone_full e.board e.player b (linked_first e b a (linked_back e a b on l))) (not_tied e false a b on l f) (not_tied e true a b on l g)
+      ∙ sym (of_group e b r on (stone_full e.board e.player b (linked_first e b a (linked_back e a b on l))) (not_tied e false a b on l f)
+      (not_tied e true a b on l g)
       (linked_through e r a b on h l)
       (λ j k. false_from_ne_true (is_linked e j b) (λ u. both_ways (is_linked e j a) (m j k) (linked_through e j b a on u (linked_back e a b on l)))))
   | is_other f g h m t ↦ absurd

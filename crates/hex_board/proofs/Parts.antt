@@ -445,7 +445,8 @@ pub head_test : (e : PlayerBoard) (u l r f g em k : ℕ) → has u k ≡ (has em
     → has g k ≡ is_tied e true k → has u k ≡ is_head e k
 head_test e u l r f g em k a b c d x y = a
     ∙ (ap (λ v. v || has l k) c ∙ ap (λ v. is_empty_at e.board k || v)
-    (b ∙ (ap (λ v. (v && not (has f k)) && not (has g k)) d ∙ (ap (λ v. (is_root e k && not v) && not (has g k)) x ∙ ap (λ v. (is_root e k && not (is_tied e false k)) && not v) y))))
+    (b ∙ (ap (λ v. (v && not (has f k)) && not (has g k)) d ∙ (ap (λ v. (is_root e k && not v) && not (has g k)) x
+    ∙ ap (λ v. (is_root e k && not (is_tied e false k)) && not v) y))))
 
 -- ---- the cells of an element
 

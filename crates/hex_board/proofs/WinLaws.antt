@@ -49,10 +49,12 @@ one_less : (p q : ℕ → Bool) (k a m : ℕ) → a ≤ k → k < a + m → p k 
 one_less p q k a zero l b h f = absurd (omega arith)
 one_less p q k a (suc m) l b h f = elim (cases_eq a k) [
   | inl e ↦ counted p a m
-      ∙ (one_of (p a) (q a) (count_by p (range_with_len (a + 1) m)) (count_by q (range_with_len (a + 1) m)) (ap p e ∙ h) (ap q e ∙ gone (p k) (q k) k (f k)) (same_counts p q k (a + 1) m (omega arith) f)
+      ∙ (one_of (p a) (q a) (count_by p (range_with_len (a + 1) m)) (count_by q (range_with_len (a + 1) m)) (ap p e ∙ h) (ap q e
+      ∙ gone (p k) (q k) k (f k)) (same_counts p q k (a + 1) m (omega arith) f)
       ∙ ap suc (sym (counted q a m)))
   | inr n ↦ counted p a m
-      ∙ (none_of (p a) (q a) (count_by p (range_with_len (a + 1) m)) (count_by q (range_with_len (a + 1) m)) (same_test (p a) (q a) a k (f a) n) (one_less p q k (a + 1) m (omega arith) (omega arith) h f)
+      ∙ (none_of (p a) (q a) (count_by p (range_with_len (a + 1) m)) (count_by q (range_with_len (a
+      + 1) m)) (same_test (p a) (q a) a k (f a) n) (one_less p q k (a + 1) m (omega arith) (omega arith) h f)
       ∙ ap suc (sym (counted q a m)))
 ]
 

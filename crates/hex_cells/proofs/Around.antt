@@ -124,12 +124,14 @@ beside n s c d h l m t = (c, h, record { from = l; to = m; step = t })
 pub around_out : (n s all here left right d : ℕ) → Cuts n s all here left right
     → moved n all here left right d ≡ true → Bordered n s d
 around_out n s all here left right d k h = any_of _ _ _ _ _ _ _ (Bordered n s d) h
-    (λ e a. let u : (1 ≤ d) × (has left (d - 1) ≡ true) = moved_out _ _ d 1 e in let t = cut_out (has s (d - 1)) (d - 1) (n * n) ((d - 1) % n) (n - 1) (sym (k.not_last (d - 1)) ∙ u.1) in
+    (λ e a. let u : (1 ≤ d) × (has left (d - 1) ≡ true) = moved_out _ _ d 1 e in let t = cut_out (has s (d - 1)) (d - 1) (n * n) ((d - 1) % n) (n - 1)
+    (sym (k.not_last (d - 1)) ∙ u.1) in
     beside n s (d - 1) d t.0 t.1 (ltb-true _ _ (sym (k.on d) ∙ a))
     (to_east n _ d k.low (omega arith) t.2))
     (λ e a. let t = cut_out (has s (d + 1)) (d + 1) (n * n) ((d + 1) % n) 0 (sym (k.not_first (d + 1)) ∙ e) in
     beside n s (d + 1) d t.0 t.1 (ltb-true _ _ (sym (k.on d) ∙ a)) (to_west n _ d k.low refl t.2))
-    (λ e a. let u : (n ≤ d) × (has here (d - n) ≡ true) = moved_out _ _ d n e in let t = here_out (has s (d - n)) (d - n) (n * n) (sym (k.whole (d - n)) ∙ u.1) in
+    (λ e a. let u : (n ≤ d) × (has here (d - n) ≡ true) = moved_out _ _ d n e in let t = here_out (has s (d - n)) (d - n) (n * n) (sym (k.whole (d - n))
+    ∙ u.1) in
     beside n s (d - n) d t.0 t.1 (ltb-true _ _ (sym (k.on d) ∙ a))
     (to_south n _ d k.low (omega arith)))
     (λ e a. let t = here_out (has s (d + n)) (d + n) (n * n) (sym (k.whole (d + n)) ∙ e) in
@@ -137,7 +139,8 @@ around_out n s all here left right d k h = any_of _ _ _ _ _ _ _ (Bordered n s d)
     (λ e a. let t = cut_out (has s (d + (n - 1))) (d + (n - 1)) (n * n) ((d + (n - 1)) % n) (n - 1) (sym (k.not_last (d + (n - 1))) ∙ e) in
     beside n s (d + (n - 1)) d t.0 t.1 (ltb-true _ _ (sym (k.on d) ∙ a))
     (to_north_east n _ d k.low refl t.2))
-    (λ e a. let u : (n - 1 ≤ d) × (has right (d - (n - 1)) ≡ true) = moved_out _ _ d (n - 1) e in let t = cut_out (has s (d - (n - 1))) (d - (n - 1)) (n * n) ((d - (n - 1)) % n) 0 (sym (k.not_first (d - (n - 1))) ∙ u.1) in
+    (λ e a. let u : (n - 1 ≤ d) × (has right (d - (n - 1)) ≡ true) = moved_out _ _ d (n - 1) e in let t = cut_out (has s (d - (n - 1))) (d - (n - 1)) (n * n)
+    ((d - (n - 1)) % n) 0 (sym (k.not_first (d - (n - 1))) ∙ u.1) in
     beside n s (d - (n - 1)) d t.0 t.1 (ltb-true _ _ (sym (k.on d) ∙ a))
     (to_south_west n _ d k.low (omega arith) t.2))
 
@@ -230,7 +233,8 @@ only_cell n none one c d x e f h = (
 abbrev pub gathered : ℕ → ℕ → ℕ → ℕ → ℕ → ℕ → Bool
 gathered n all here left right d
     = (((((has all d && (not (nat_lt d 1) && has left (d - 1))) || has right (d + 1))
-    || (has all d && (not (nat_lt d (n - 1)) && ((has all (d - (n - 1)) && (not (nat_lt (d - (n - 1)) 1) && has here (d - (n - 1) - 1))) || has right (d - (n - 1))))))
+    || (has all d && (not (nat_lt d (n - 1)) && ((has all (d - (n - 1)) && (not (nat_lt (d - (n - 1)) 1) && has here (d - (n - 1) - 1)))
+    || has right (d - (n - 1))))))
     || (has here (d + (n - 1) + 1) || has left (d + (n - 1)))) && has all d)
 
 two_steps : (x y h r : Bool) (d n b : ℕ) → b + 1 ≡ n → (x ≡ true → y ≡ true)
@@ -259,7 +263,8 @@ gathered_moved n s all here left right d k =
     regroup (has all d && (not (nat_lt d 1) && has left (d - 1))) (has right (d + 1))
     (has all d && (not (nat_lt d n) && has here (d - n))) (has here (d + n))
     (has left (d + (n - 1))) (has all d && (not (nat_lt d (n - 1)) && has right (d - (n - 1))))
-    (has all d && (not (nat_lt d (n - 1)) && ((has all (d - (n - 1)) && (not (nat_lt (d - (n - 1)) 1) && has here (d - (n - 1) - 1))) || has right (d - (n - 1)))))
+    (has all d && (not (nat_lt d (n - 1)) && ((has all (d - (n - 1)) && (not (nat_lt (d - (n - 1)) 1) && has here (d - (n - 1) - 1)))
+    || has right (d - (n - 1)))))
     (has here (d + (n - 1) + 1) || has left (d + (n - 1))) (has all d)
     (ap (λ x. has all d && (not (nat_lt d (n - 1)) && ((has all (d - (n - 1)) && (not (nat_lt (d - (n - 1)) 1) && has here x)) || has right (d - (n - 1))))) u
     ∙ two_steps (has all d) (has all (d - (n - 1))) (has here (d - n)) (has right (d - (n - 1))) d n

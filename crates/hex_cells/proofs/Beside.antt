@@ -38,7 +38,9 @@ adjacent_out n a b h = one_of _ _ _ _ _ _ (Adjacent n a b) h
     (λ e. let t = pair_out (a % n) (b % n + 1) (b / n) (a / n + 1) e in south_west t.0 t.1)
 
 steps_in : (c r d q : ℕ)
-    → ((d == c + 1 && q == r) ≡ true) ⊎ (((c == d + 1 && q == r) ≡ true) ⊎ (((d == c && q == r + 1) ≡ true) ⊎ (((d == c && r == q + 1) ≡ true) ⊎ (((d == c + 1 && r == q + 1) ≡ true) ⊎ ((c == d + 1 && q == r + 1) ≡ true))))) → is_adjacent c r d q ≡ true
+    → ((d == c + 1 && q == r) ≡ true) ⊎ (((c == d + 1 && q == r) ≡ true)
+    ⊎ (((d == c && q == r + 1) ≡ true) ⊎ (((d == c && r == q + 1) ≡ true) ⊎ (((d == c + 1 && r == q + 1) ≡ true) ⊎ ((c == d + 1 && q == r + 1) ≡ true)))))
+    → is_adjacent c r d q ≡ true
 steps_in c r d q o = any_six (d == c + 1 && q == r) (c == d + 1 && q == r) (d == c && q == r + 1)
     (d == c && r == q + 1) (d == c + 1 && r == q + 1) (c == d + 1 && q == r + 1) o
 

@@ -51,7 +51,11 @@ has_not a k h i = not_one _ _ (bit_at-lt a k) (bit_at_not w128 a k h i)
 pub has_minus : (a b k : ℕ) → a < 2 ^ 121 → b < 2 ^ 121
     → has (bit_and a (2 ^ 128 - 1 - b)) k ≡ (has a k && not (has b k))
 has_minus a b k ha hb = has_and a (2 ^ 128 - 1 - b) k
-    ∙ (elim (cases_lt k 128) [ inl h ↦ ap (λ v. has a k && v) (has_not b k (omega arith) h) | inr h ↦ let e : has a k ≡ false = has_above a 121 k ha (omega arith) in rw e refl ])
+    ∙ (elim (cases_lt k 128) [
+      | inl h ↦ ap (λ v. has a k && v) (has_not b k (omega arith) h)
+      | inr h ↦ let e : has a k
+          ≡ false = has_above a 121 k ha (omega arith) in rw e refl
+    ])
 
 apart : (x : ℕ) → x ≡ 1 → x ≡ 0 → ⊥
 apart x e f = omega arith

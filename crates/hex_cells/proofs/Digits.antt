@@ -81,7 +81,8 @@ some_two d q r e n l h f g =
       omega arith,
       omega arith,
       two_items d e ∙ (ap (λ v. v ∷ get_or d 1 0 ∷ []) f ∙ (ap (λ v. (48 + q) ∷ v ∷ []) g
-          ∙ sym (decimal_two (10 * q + r) (omega arith) (omega arith) ∙ (ap (λ v. (48 + v) ∷ (48 + (10 * q + r) % 10) ∷ []) a ∙ ap (λ v. (48 + q) ∷ (48 + v) ∷ []) b)))),
+          ∙ sym (decimal_two (10 * q + r) (omega arith) (omega arith)
+          ∙ (ap (λ v. (48 + v) ∷ (48 + (10 * q + r) % 10) ∷ []) a ∙ ap (λ v. (48 + q) ∷ (48 + v) ∷ []) b)))),
     )
 
 -- what stands at the front of two bytes or more after one or two are written

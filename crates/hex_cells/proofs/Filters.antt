@@ -92,7 +92,8 @@ two_pass p a (suc n) m =
     ap (λ (z : ℕ). filter p (range_with_len a z)) (more n m)
     ∙ (ap (λ (xs : List ℕ). cond (p a) (a ∷ xs) xs) (two_pass p (a + 1) n m)
     ∙ (through (p a) a (filter p (range_with_len (a + 1) n)) (filter p (range_with_len (a + 1 + n) m))
-    ∙ ap (λ (z : ℕ). cond (p a) (a ∷ filter p (range_with_len (a + 1) n)) (filter p (range_with_len (a + 1) n)) ++ filter p (range_with_len z m)) (shift a n)))
+    ∙ ap (λ (z : ℕ). cond (p a) (a ∷ filter p (range_with_len (a + 1) n)) (filter p (range_with_len (a + 1) n))
+    ++ filter p (range_with_len z m)) (shift a n)))
   where
     more : (n m : ℕ) → suc n + m ≡ suc (n + m)
     more n m = omega arith

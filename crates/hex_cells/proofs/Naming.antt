@@ -90,7 +90,8 @@ is_place xs c m n e l h f =
     let g : m - 1 + 1 ≡ m = omega arith in (
       omega arith,
       lowered xs n ∙ (ap (λ v. v ∷ str_to_ascii_lowercase (drop 1 xs)) e
-          ∙ (ap (λ v. (97 + c) ∷ str_to_ascii_lowercase v) (sym (take_rest xs 1) ∙ f) ∙ (ap (λ v. (97 + c) ∷ v) (low_lower (decimal m) (decimal_low m l h)) ∙ ap (λ v. (97 + c) ∷ decimal v) (sym g)))),
+          ∙ (ap (λ v. (97 + c) ∷ str_to_ascii_lowercase v) (sym (take_rest xs 1) ∙ f)
+          ∙ (ap (λ v. (97 + c) ∷ v) (low_lower (decimal m) (decimal_low m l h)) ∙ ap (λ v. (97 + c) ∷ decimal v) (sym g)))),
     )
 
 -- ---- the cell of a vertex

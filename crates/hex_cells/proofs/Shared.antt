@@ -26,7 +26,8 @@ meets_test a b h = (
       let p = and_parts (has a t.0) (has b t.0) (sym (has_and a b t.0) ∙ t.1) in (t.0, p.0, p.1)),
   (λ p. elim (cases_Bool (eqb (bit_and a b) 0)) [
     | inl z ↦ absurd
-        (both_ways (has (bit_and a b) p.0) (zero_has (bit_and a b) p.0 (eqb-true (bit_and a b) 0 z)) (has_and a b p.0 ∙ and_from (has a p.0) (has b p.0) p.1 p.2))
+        (both_ways (has (bit_and a b) p.0) (zero_has (bit_and a b) p.0 (eqb-true (bit_and a b) 0 z)) (has_and a b p.0
+        ∙ and_from (has a p.0) (has b p.0) p.1 p.2))
     | inr z ↦ set _ z
   ]),
 )

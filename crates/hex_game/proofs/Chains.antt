@@ -75,7 +75,8 @@ pub one_less : (start : Position) (all steps : List Step) (old boards : List Pos
     → StepsLead start [] start steps boards board
 one_less start all steps old boards last board step e f h =
     less_on start [] start steps boards last board step
-    (subst (λ (bs : List Position). StepsLead start [] start (steps ++ step ∷ []) bs last) f (subst (λ (ss : List Step). StepsLead start [] start ss old last) e h))
+    (subst (λ (bs : List Position). StepsLead start [] start (steps ++ step
+    ∷ []) bs last) f (subst (λ (ss : List Step). StepsLead start [] start ss old last) e h))
 
 -- a history has as many boards as steps
 pub as_many_on : (start : Position) (done : List Step) (now : Position) (steps : List Step)
@@ -129,7 +130,8 @@ replay_on-push start done now [] step = ap (λ (d : List Step). after_step start
     (sym (append-nil done))
 replay_on-push start done now (first ∷ steps) step =
     replay_on-push start (done ++ first ∷ []) (after_step start done now first) steps step
-    ∙ ap (λ (d : List Step). after_step start d (replay_on start (done ++ first ∷ []) (after_step start done now first) steps) step) (append_assoc done (first ∷ []) steps)
+    ∙ ap (λ (d : List Step). after_step start d (replay_on start (done ++ first ∷ []) (after_step start done now first) steps) step) (append_assoc done (first
+    ∷ []) steps)
 
 -- one step more in a replay
 pub replay-push : (start : Position) (steps : List Step) (step : Step)

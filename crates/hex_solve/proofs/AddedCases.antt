@@ -36,7 +36,14 @@ none_first c rest h = absurd (cc)
 pub answering : (d : LedgerData) (p : Position) (numbers cells : List ℕ) → IsLedger d → d.lost ≡ 0
     → AreAnswers d p numbers cells → Answering d p numbers cells
 answering d p [] [] w z f
-    = record { carriers = []; ways = no_ways; first = none_first; leaves = λ k h. absurd h; bare = λ k h j i. absurd i; small = All-nil (λ v. v ≤ MOST_NUMBER) }
+    = record {
+      carriers = [];
+      ways = no_ways;
+      first = none_first;
+      leaves = λ k h. absurd h;
+      bare = λ k h j i. absurd i;
+      small = All-nil (λ v. v ≤ MOST_NUMBER);
+    }
 answering d p [] (k ∷ cells) w z f = absurd f
 answering d p (i ∷ numbers) [] w z f = absurd f
 answering d p (i ∷ numbers) (k ∷ cells) w z (f, e, g) =

@@ -60,7 +60,13 @@ grows_one d line w = elim (cases_lt (length d.lines) MOST_LINES) [
   | inr l ↦
       let r = rises d.lost w in
       subst (λ e. GrowsBy 1 d e) (sym (no_room d line l))
-      (record { base = refl; more = []; lines = sym (append-nil d.lines); lost = r.0; count = more (length d.lines) d.lost (min (d.lost + 1) (2 ^ 64 - 1)) r.1 })
+      (record {
+        base = refl;
+        more = [];
+        lines = sym (append-nil d.lines);
+        lost = r.0;
+        count = more (length d.lines) d.lost (min (d.lost + 1) (2 ^ 64 - 1)) r.1;
+      })
 ]
   where
     more : (a x y : ℕ) → y ≤ x + 1 → a + y ≤ a + x + 1

@@ -28,7 +28,11 @@ grown_none d = record { elements = refl; entries = ([], sym (append-nil d.entrie
 pub grown_on : (d f g : StoreData) → Extends d f → Extends f g → Extends d g
 grown_on d f g a b = record {
   elements = b.elements ∙ a.elements;
-  entries = (a.entries.0 ++ b.entries.0, b.entries.1 ∙ (ap (λ (v : List Entry). v ++ b.entries.0) a.entries.1 ∙ append_assoc d.entries a.entries.0 b.entries.0));
+  entries = (
+    a.entries.0 ++ b.entries.0,
+    b.entries.1 ∙ (ap (λ (v : List Entry). v ++ b.entries.0) a.entries.1
+        ∙ append_assoc d.entries a.entries.0 b.entries.0),
+  );
 }
 
 pub grown_put : (d : StoreData) (a : Entry) (put : Put) (f : StoreData) → f ≡ after_put d a put

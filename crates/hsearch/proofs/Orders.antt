@@ -133,7 +133,14 @@ swapped_two d a b x y h r =
     let t = two_of a b x y r in
     wider_answer d Full x y (union_of (b ∷ a ∷ [])) (union_of (a ∷ b ∷ []))
     (λ k g. elim (in_union b.carrier a.carrier k g) [ inl o ↦ union_right a.carrier b.carrier k o | inr o ↦ union_left a.carrier b.carrier k o ])
-    (h (two_rule b a x y (record { first_kind = t.second_kind; second_kind = t.first_kind; first_pair = t.second_pair; second_pair = t.first_pair; free = λ k f g. t.free k g f })))
+    (h (two_rule b a x y (record {
+      first_kind = t.second_kind;
+      second_kind = t.first_kind;
+      first_pair = t.second_pair;
+      second_pair = t.first_pair;
+      free =
+          λ k f g. t.free k g f;
+    })))
 
 -- the last two swapped
 pub swapped_last : (d : StoreData) (a b c : Entry) (x y : ℕ) → SettlesOr d (a ∷ c ∷ b ∷ []) x y
@@ -186,8 +193,18 @@ pub way_twice : (d : StoreData) (a b : Entry) (x y : ℕ) → SettlesOr d (a ∷
 way_twice d a b x y h r =
     let t = three_of a b b x y r in
     wider_answer d Full x y (union_of (a ∷ b ∷ [])) (union_of (a ∷ b ∷ b ∷ []))
-    (λ k g. elim (in_union a.carrier b.carrier k g) [ inl o ↦ first_in a.carrier b.carrier b.carrier k o | inr o ↦ second_in a.carrier b.carrier b.carrier k o ])
-    (h (two_rule a b x y (record { first_kind = t.first_kind; second_kind = t.second_kind; first_pair = t.first_pair; second_pair = t.second_pair; free = λ k f g. t.free k f g g })))
+    (λ k g. elim (in_union a.carrier b.carrier k g) [
+      | inl o ↦ first_in a.carrier b.carrier b.carrier k o
+      | inr o ↦ second_in a.carrier b.carrier b.carrier k o
+    ])
+    (h (two_rule a b x y (record {
+      first_kind = t.first_kind;
+      second_kind = t.second_kind;
+      first_pair = t.first_pair;
+      second_pair = t.second_pair;
+      free =
+          λ k f g. t.free k f g g;
+    })))
 
 -- two ways that share no cell: a third one adds nothing
 pub two_enough : (d : StoreData) (a b c : Entry) (x y : ℕ)
@@ -196,8 +213,17 @@ pub two_enough : (d : StoreData) (a b c : Entry) (x y : ℕ)
 two_enough d a b c x y free h r =
     let t = three_of a b c x y r in
     wider_answer d Full x y (union_of (a ∷ b ∷ [])) (union_of (a ∷ b ∷ c ∷ []))
-    (λ k g. elim (in_union a.carrier b.carrier k g) [ inl o ↦ first_in a.carrier b.carrier c.carrier k o | inr o ↦ second_in a.carrier b.carrier c.carrier k o ])
-    (h (two_rule a b x y (record { first_kind = t.first_kind; second_kind = t.second_kind; first_pair = t.first_pair; second_pair = t.second_pair; free = free })))
+    (λ k g. elim (in_union a.carrier b.carrier k g) [
+      | inl o ↦ first_in a.carrier b.carrier c.carrier k o
+      | inr o ↦ second_in a.carrier b.carrier c.carrier k o
+    ])
+    (h (two_rule a b x y (record {
+      first_kind = t.first_kind;
+      second_kind = t.second_kind;
+      first_pair = t.first_pair;
+      second_pair = t.second_pair;
+      free = free;
+    })))
 
 -- the first way twice
 pub first_twice : (d : StoreData) (a b : Entry) (x y : ℕ) → SettlesOr d (a ∷ b ∷ []) x y
@@ -205,13 +231,33 @@ pub first_twice : (d : StoreData) (a b : Entry) (x y : ℕ) → SettlesOr d (a �
 first_twice d a b x y h r =
     let t = three_of a a b x y r in
     wider_answer d Full x y (union_of (a ∷ b ∷ [])) (union_of (a ∷ a ∷ b ∷ []))
-    (λ k g. elim (in_union a.carrier b.carrier k g) [ inl o ↦ first_in a.carrier a.carrier b.carrier k o | inr o ↦ third_in a.carrier a.carrier b.carrier k o ])
-    (h (two_rule a b x y (record { first_kind = t.first_kind; second_kind = t.third_kind; first_pair = t.first_pair; second_pair = t.third_pair; free = λ k f g. t.free k f f g })))
+    (λ k g. elim (in_union a.carrier b.carrier k g) [
+      | inl o ↦ first_in a.carrier a.carrier b.carrier k o
+      | inr o ↦ third_in a.carrier a.carrier b.carrier k o
+    ])
+    (h (two_rule a b x y (record {
+      first_kind = t.first_kind;
+      second_kind = t.third_kind;
+      first_pair = t.first_pair;
+      second_pair = t.third_pair;
+      free =
+          λ k f g. t.free k f f g;
+    })))
 
 pub first_again : (d : StoreData) (a b : Entry) (x y : ℕ) → SettlesOr d (a ∷ b ∷ []) x y
     → SettlesOr d (a ∷ b ∷ a ∷ []) x y
 first_again d a b x y h r =
     let t = three_of a b a x y r in
     wider_answer d Full x y (union_of (a ∷ b ∷ [])) (union_of (a ∷ b ∷ a ∷ []))
-    (λ k g. elim (in_union a.carrier b.carrier k g) [ inl o ↦ first_in a.carrier b.carrier a.carrier k o | inr o ↦ second_in a.carrier b.carrier a.carrier k o ])
-    (h (two_rule a b x y (record { first_kind = t.first_kind; second_kind = t.second_kind; first_pair = t.first_pair; second_pair = t.second_pair; free = λ k f g. t.free k f g f })))
+    (λ k g. elim (in_union a.carrier b.carrier k g) [
+      | inl o ↦ first_in a.carrier b.carrier a.carrier k o
+      | inr o ↦ second_in a.carrier b.carrier a.carrier k o
+    ])
+    (h (two_rule a b x y (record {
+      first_kind = t.first_kind;
+      second_kind = t.second_kind;
+      first_pair = t.first_pair;
+      second_pair = t.second_pair;
+      free =
+          λ k f g. t.free k f g f;
+    })))

@@ -488,7 +488,8 @@ combined_full d f taken lists n a g l h k all over_x over_y = record {
     no_way numbers ways x y b s w r =
         let q : b ≡ a = same_Some b a (sym s ∙ entry_stays d f n a g h) in
         kinds_apart a.kind k
-        (subst (λ (v : Entry). v.kind ≡ Semi) q (All-head (λ (v : Entry). v.kind ≡ Semi) b w.0 (subst (λ z. All (λ (v : Entry). v.kind ≡ Semi) z) w.1 r.kinds)))
+        (subst (λ (v : Entry). v.kind ≡ Semi) q (All-head (λ (v : Entry). v.kind
+        ≡ Semi) b w.0 (subst (λ z. All (λ (v : Entry). v.kind ≡ Semi) z) w.1 r.kinds)))
 
     first_two : (i : ℕ) (ways : List Entry) (at : AreAt f.entries (n ∷ i ∷ []) ways)
         → (rest : List Entry) × (ways ≡ (of_two f.entries n i ways at).0 ∷ rest)

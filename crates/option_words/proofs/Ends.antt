@@ -165,7 +165,8 @@ value_pushed id [] vs = refl
 value_pushed id (u ∷ us) vs =
     let rest = value_pushed id us vs in
     elim (bytes_eq u.0 id) as
-    (λ b. option_map (λ (s : Saying). s.1) (cond b (Some u) (find (λ s. bytes_eq s.0 id) (us ++ vs))) ≡ or_option (option_map (λ (s : Saying). s.1) (cond b (Some u) (find (λ s. bytes_eq s.0 id) us))) (value_of vs id)) [
+    (λ b. option_map (λ (s : Saying). s.1) (cond b (Some u) (find (λ s. bytes_eq s.0 id) (us ++ vs)))
+    ≡ or_option (option_map (λ (s : Saying). s.1) (cond b (Some u) (find (λ s. bytes_eq s.0 id) us))) (value_of vs id)) [
       | true ↦ refl
       | false ↦ rest
     ]
@@ -177,7 +178,8 @@ rows_value id [] d = refl
 rows_value id (u ∷ us) d =
     let rest = rows_value id us d in
     elim (bytes_eq u.0 id) as
-    (λ b. option_and_then first_text (or_option (cond b (Some (row_for u)) (row_at id (rows_for us))) d) ≡ or_option (option_map (λ (s : Saying). s.1) (cond b (Some u) (find (λ s. bytes_eq s.0 id) us))) (option_and_then first_text d)) [
+    (λ b. option_and_then first_text (or_option (cond b (Some (row_for u)) (row_at id (rows_for us))) d)
+    ≡ or_option (option_map (λ (s : Saying). s.1) (cond b (Some u) (find (λ s. bytes_eq s.0 id) us))) (option_and_then first_text d)) [
       | true ↦ refl
       | false ↦ rest
     ]
@@ -193,7 +195,8 @@ default_value id name [] d e is
     (no_choice (bytes_eq name id) None) ∙ is
 default_value id name (v ∷ vs) d e is =
     elim (bytes_eq name id) as
-    (λ b. option_and_then first_text (or_option (cond b (default_row name (v ∷ vs)) None) d) ≡ or_option (option_map (λ (s : Saying). s.1) (cond b (Some (name, v)) None)) e) [
+    (λ b. option_and_then first_text (or_option (cond b (default_row name (v ∷ vs)) None) d)
+    ≡ or_option (option_map (λ (s : Saying). s.1) (cond b (Some (name, v)) None)) e) [
       | true ↦ refl
       | false ↦ is
     ]
@@ -241,7 +244,8 @@ word_given : (t : Form) → KeepsWord t.options → (us : List Saying)
     → is_given word_name (fold with_default (rows_for us) (rules_with t)) ≡ says word_name us
 word_given t keeps us =
     ap given_row
-    (rows_at_end word_name t (rows_for us) ∙ ap (or_option (row_at word_name (rows_for us))) (no_word_default t.options keeps) ∙ or_option_none (row_at word_name (rows_for us)))
+    (rows_at_end word_name t (rows_for us) ∙ ap (or_option (row_at word_name (rows_for us))) (no_word_default t.options keeps)
+    ∙ or_option_none (row_at word_name (rows_for us)))
     ∙ word_row us
 
 none_required : (t : OptionTable) (rows : List Row)

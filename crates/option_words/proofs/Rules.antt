@@ -118,7 +118,8 @@ options_by_id [] name = refl
 options_by_id (o ∷ t) name =
     let rest = options_by_id t name in
     elim (bytes_eq o.0 name) as
-    (λ b. cond b (Some (option_built o)) (find (λ a. bytes_eq a.id name) (map option_built t)) ≡ option_map option_built (cond b (Some o) (option_in t name))) [
+    (λ b. cond b (Some (option_built o)) (find (λ a. bytes_eq a.id name) (map option_built t))
+    ≡ option_map option_built (cond b (Some o) (option_in t name))) [
       | true ↦ refl
       | false ↦ rest
     ]

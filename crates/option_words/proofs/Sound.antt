@@ -131,7 +131,8 @@ past_step t x xs S q w p pending once e more true is =
     (positional_is t S q x pending clear) in
     plain_use t (base S q) x xs
     (more (base S q) (Some (word_name, x)) idle (next_position (word_built t.required) p) (found_word t) (once_base S q once clear)
-    (no_later_fault t (past (held_with S q) w p) (past (held_with (base S q) (Some (word_name, x))) idle (next_position (word_built t.required) p)) x xs e next))
+    (no_later_fault t (past (held_with S q) w p) (past (held_with (base S q) (Some (word_name, x))) idle (next_position (word_built t.required) p)) x xs e
+    next))
 
 sound_past : (t : Form) → KeepsWord t.options → (ws : List TextBytes) → PastGoesOn t ws
 sound_past t keeps [] S q w p pending once e =
@@ -232,7 +233,8 @@ joined_ready : (t : Form) → KeepsWord t.options
     → long_of x ≡ Some (name, Some v) → GoesOn t xs → (o : Option (TextBytes × List TextBytes))
     → option_in t.options name ≡ o → Spelling t (base S q) (x ∷ xs)
 joined_ready t keeps x xs S q p pending once e name v same other long more None absent =
-    absurd (unknown_never t _ x xs e (fault_unknown (shape_with t) (held_with S q) idle p x name (Some v) refl other long (rule_by_long t name ∙ ap (option_map option_built) absent)))
+    absurd (unknown_never t _ x xs e (fault_unknown (shape_with t) (held_with S q) idle p x name (Some v) refl other long (rule_by_long t name
+    ∙ ap (option_map option_built) absent)))
 joined_ready t keeps x xs S q p pending once e name v same other long more (Some o) is =
     let has = has_option t keeps name o is in
     let f = has.found in
@@ -259,7 +261,8 @@ named_ready : (t : Form) → KeepsWord t.options
     → long_of x ≡ Some (name, None) → GoesOn t xs → (o : Option (TextBytes × List TextBytes))
     → option_in t.options name ≡ o → Spelling t (base S q) (x ∷ xs)
 named_ready t keeps x xs S q p pending once e name same other long more None absent =
-    absurd (unknown_never t _ x xs e (fault_unknown (shape_with t) (held_with S q) idle p x name None refl other long (rule_by_long t name ∙ ap (option_map option_built) absent)))
+    absurd (unknown_never t _ x xs e (fault_unknown (shape_with t) (held_with S q) idle p x name None refl other long (rule_by_long t name
+    ∙ ap (option_map option_built) absent)))
 named_ready t keeps x xs S q p pending once e name same other long more (Some o) is =
     let has = has_option t keeps name o is in
     let f = has.found in
@@ -286,18 +289,21 @@ plain_ready : (t : Form) (x : TextBytes) (xs : List TextBytes) (S : List Saying)
     → Spelling t (base S q) (x ∷ xs)
 plain_ready t x xs S q p pending once e bare more false is =
     let facts = plain_facts x bare in
-    absurd (stray_never t _ (no_turn_fault t (at (held_with S q) idle p) x xs e) (fault_stray (shape_with t) (held_with S q) p x facts.0 facts.1 facts.2 (stray t p is)))
+    absurd (stray_never t _ (no_turn_fault t (at (held_with S q) idle p) x xs e)
+    (fault_stray (shape_with t) (held_with S q) p x facts.0 facts.1 facts.2 (stray t p is)))
 plain_ready t x xs S q p pending once e bare more true is =
     let facts = plain_facts x bare in
     let clear = settles t S q _ pending
-    (fault_plain (shape_with t) (held_with S q) p x (word_built t.required) facts.0 facts.1 facts.2 (wanted t p is) refl) (no_turn_fault t (at (held_with S q) idle p) x xs e) in
+    (fault_plain (shape_with t) (held_with S q) p x (word_built t.required) facts.0 facts.1 facts.2 (wanted t p is) refl)
+    (no_turn_fault t (at (held_with S q) idle p) x xs e) in
     let next = walked_plain (rules_with t) (held_with S q) p x
     (word_built t.required) facts.0 facts.1 facts.2 (wanted t p is) refl refl
     ∙ ap (λ (h : Held). at h idle (next_position (word_built t.required) p))
     (positional_is t S q x pending clear) in
     let rest = more (ready (base S q) (Some (word_name, x)))
     (next_position (word_built t.required) p) (found_word t, once_base S q once clear)
-    (no_later_fault t (at (held_with S q) idle p) (at (held_with (base S q) (Some (word_name, x))) idle (next_position (word_built t.required) p)) x xs e next) in
+    (no_later_fault t (at (held_with S q) idle p) (at (held_with (base S q) (Some (word_name, x))) idle (next_position (word_built t.required) p)) x xs e
+    next) in
     spelling_more t (base S q) (plain x) (x ∷ xs) xs refl bare rest
 
 ready_step : (t : Form) → KeepsWord t.options
@@ -348,7 +354,8 @@ asks_step : (t : Form) → KeepsWord t.options
     → HasOption t id → Once S → rest_fault t (at (asking S id) (option id) p) (x ∷ xs) ≡ []
     → GoesOn t xs → Class x → Spells t (asks S id) (x ∷ xs)
 asks_step t keeps x xs S id p has once e more (is_dashes same is) =
-    absurd (asking_past t xs S id (option id) p has.found (no_later_fault t (at (asking S id) (option id) p) (past (asking S id) (option id) p) x xs e (walked_dashes (rules_with t) (asking S id) (option id) p x refl is)))
+    absurd (asking_past t xs S id (option id) p has.found (no_later_fault t (at (asking S id) (option id) p) (past (asking S id) (option id) p) x xs e
+    (walked_dashes (rules_with t) (asking S id) (option id) p x refl is)))
 asks_step t keeps x xs S id p has once e more (is_joined name v same other long) =
     absurd (long_asks t keeps x xs S id p has.found e name (Some v) other long (option_in t.options name) refl)
 asks_step t keeps x xs S id p has once e more (is_named name same other long) =
@@ -359,8 +366,16 @@ asks_step t keeps x xs S id p has once e more (is_plain is) =
     let facts = plain_facts x is in
     let next = walked_value (rules_with t)
     (asking S id) p x id has.found.rule facts.0 facts.1 facts.2 has.found.is_rule has.most
-    (rw has.is_id refl) in
-    (x, xs, refl, is, more (ready S (Some (id, x))) p (has.found, once) (no_later_fault t (at (asking S id) (option id) p) (at (held_with S (Some (id, x))) idle p) x xs e next))
+    (rw has.is_id refl) in (
+      x,
+      xs,
+      refl,
+      is,
+      more (ready S (Some (id, x))) p (
+        has.found,
+        once,
+      ) (no_later_fault t (at (asking S id) (option id) p) (at (held_with S (Some (id, x))) idle p) x xs e next),
+    )
 
 pub sound : (t : Form) → KeepsWord t.options → (words : List TextBytes) → Words words
     → GoesOn t words

@@ -84,7 +84,8 @@ whole_past : (t : Form) → KeepsWord t.options
 whole_past t keeps [] S q w p U pending is all expects =
     let same : U ≡ base S q = is ∙ append-nil (base S q) in
     subst (λ (us : List Saying). Done t (past (held_with S q) w p) [] us) (sym same)
-    (done_end t keeps (past (held_with S q) w p) S q refl pending (clear_from S q [] (subst Once is all.0)) (subst (λ (us : List Saying). IsWanted t.required (says word_name us)) same all.1))
+    (done_end t keeps (past (held_with S q) w p) S q refl pending (clear_from S q [] (subst Once is all.0))
+    (subst (λ (us : List Saying). IsWanted t.required (says word_name us)) same all.1))
 whole_past t keeps (x ∷ xs) S q w p U pending is all expects =
     let once : Once (base S q ++ ((word_name, x) ∷ plain_sayings xs)) = subst Once is all.0 in
     let clear = clear_from S q ((word_name, x) ∷ plain_sayings xs) once in
@@ -93,8 +94,12 @@ whole_past t keeps (x ∷ xs) S q w p U pending is all expects =
     done_more t (past (held_with S q) w p)
     (past (held_with (base S q) (Some (word_name, x))) idle (next_position (word_built t.required) p)) x xs U
     (fault_past (shape_with t) (held_with S q) w p x (word_built t.required) known refl ∙ settle_is t S q pending ∙ ap conflict clear)
-    (walked_past (rules_with t) (held_with S q) w p x (word_built t.required) known refl ∙ ap (λ (h : Held). past h idle (next_position (word_built t.required) p)) (positional_is t S q x pending clear))
-    (whole_past t keeps xs (base S q) (Some (word_name, x)) idle (next_position (word_built t.required) p) U (found_word t) (regrouped (base S q) (word_name, x) (plain_sayings xs) U is) all (expected_no_more (base S q) x (next_position (word_built t.required) p)))
+    (walked_past (rules_with t) (held_with S q) w p x (word_built t.required) known refl
+    ∙ ap (λ (h : Held). past h idle (next_position (word_built t.required) p)) (positional_is t S q x pending clear))
+    (whole_past t keeps xs (base S q) (Some (word_name, x)) idle (next_position (word_built t.required) p) U (found_word t) (regrouped (base S q) (
+      word_name,
+      x,
+    ) (plain_sayings xs) U is) all (expected_no_more (base S q) x (next_position (word_built t.required) p)))
 
 -- ---- before `--`
 
@@ -107,7 +112,8 @@ whole_end : (t : Form) → KeepsWord t.options → (rest : Option (List TextByte
 whole_end t keeps None S q p U pending is all expects =
     let same : U ≡ base S q = is ∙ append-nil (base S q) in
     subst (λ (us : List Saying). Done t (at (held_with S q) idle p) [] us) (sym same)
-    (done_end t keeps (at (held_with S q) idle p) S q refl pending (clear_from S q [] (subst Once is all.0)) (subst (λ (us : List Saying). IsWanted t.required (says word_name us)) same all.1))
+    (done_end t keeps (at (held_with S q) idle p) S q refl pending (clear_from S q [] (subst Once is all.0))
+    (subst (λ (us : List Saying). IsWanted t.required (says word_name us)) same all.1))
 whole_end t keeps (Some ws) S q p U pending is all expects =
     done_more t (at (held_with S q) idle p) (past (held_with S q) idle p) dashes ws U
     (fault_dashes (shape_with t) (held_with S q) idle p dashes refl refl)
@@ -131,9 +137,12 @@ whole_joined t keeps well name v parts rest part more S q p U pending is all exp
     let words = flat_map part_words parts ++ after_hyphens rest in
     done_more t (at (held_with S q) idle p) (at (held_with now None) idle p)
     (dashes ++ (name ++ (61 ∷ v))) words U
-    (fault_joined (shape_with t) (held_with S q) idle p (dashes ++ (name ++ (61 ∷ v))) name v has.found.rule refl long.0 long.1 has.by_long has.takes ∙ or_nothing _ ∙ react_passes t S q name v pending has.found clear fresh)
-    (walked_joined (rules_with t) (held_with S q) p (dashes ++ (name ++ (61 ∷ v))) name v has.found.rule long.0 long.1 has.by_long has.takes ∙ ap (λ (h : Held). at h idle p) (reacted_is t S q name v pending has.found clear fresh))
-    (more now None p U tt (regrouped (base S q) (name, v) (uses parts rest) U is ∙ ap (λ (us : List Saying). us ++ uses parts rest) (sym (append-nil now))) all
+    (fault_joined (shape_with t) (held_with S q) idle p (dashes ++ (name ++ (61 ∷ v))) name v has.found.rule refl long.0 long.1 has.by_long has.takes
+    ∙ or_nothing _ ∙ react_passes t S q name v pending has.found clear fresh)
+    (walked_joined (rules_with t) (held_with S q) p (dashes ++ (name ++ (61 ∷ v))) name v has.found.rule long.0 long.1 has.by_long has.takes
+    ∙ ap (λ (h : Held). at h idle p) (reacted_is t S q name v pending has.found clear fresh))
+    (more now None p U tt (regrouped (base S q) (name, v) (uses parts rest) U is
+    ∙ ap (λ (us : List Saying). us ++ uses parts rest) (sym (append-nil now))) all
     (subst (λ (us : List Saying). Expects us p) (sym (append-nil now)) (expects_after (base S q) name v p expects)))
 
 whole_apart : (t : Form) → KeepsWord t.options → WellNamed t.options
@@ -154,8 +163,10 @@ whole_apart t keeps well name v parts rest part more S q p U pending is all expe
     let words = flat_map part_words parts ++ after_hyphens rest in
     done_more t (at (held_with S q) idle p) (at (asking (base S q) name) (option name) p)
     (dashes ++ name) (v ∷ words) U
-    (fault_named (shape_with t) (held_with S q) idle p (dashes ++ name) name f.rule refl long.0 long.1 has.by_long has.takes ∙ or_nothing _ ∙ settle_is t S q pending ∙ ap conflict clear)
-    (walked_named (rules_with t) (held_with S q) p (dashes ++ name) name f.rule long.0 long.1 has.by_long has.takes ∙ ap₂ (λ (h : Held) (id : TextBytes). at h (option id) p) held_is f.set.id_is)
+    (fault_named (shape_with t) (held_with S q) idle p (dashes ++ name) name f.rule refl long.0 long.1 has.by_long has.takes ∙ or_nothing _
+    ∙ settle_is t S q pending ∙ ap conflict clear)
+    (walked_named (rules_with t) (held_with S q) p (dashes ++ name) name f.rule long.0 long.1 has.by_long has.takes
+    ∙ ap₂ (λ (h : Held) (id : TextBytes). at h (option id) p) held_is f.set.id_is)
     (done_more t (at (asking (base S q) name) (option name) p) (at (held_with (base S q) (Some (name, v))) idle p) v words U
     (fault_value (shape_with t) (asking (base S q) name) p v name facts.0 facts.1 facts.2)
     (walked_value (rules_with t) (asking (base S q) name) p v name f.rule facts.0 facts.1 facts.2 f.is_rule has.most (rw has.is_id refl))
@@ -172,9 +183,14 @@ whole_plain t word parts rest part more S q p U pending is all expects =
     let words = flat_map part_words parts ++ after_hyphens rest in
     done_more t (at (held_with S q) idle p)
     (at (held_with (base S q) (Some (word_name, word))) idle (next_position (word_built t.required) p)) word words U
-    (fault_plain (shape_with t) (held_with S q) p word (word_built t.required) facts.0 facts.1 facts.2 known refl ∙ settle_is t S q pending ∙ ap conflict clear)
-    (walked_plain (rules_with t) (held_with S q) p word (word_built t.required) facts.0 facts.1 facts.2 known refl refl ∙ ap (λ (h : Held). at h idle (next_position (word_built t.required) p)) (positional_is t S q word pending clear))
-    (more (base S q) (Some (word_name, word)) (next_position (word_built t.required) p) U (found_word t) (regrouped (base S q) (word_name, word) (uses parts rest) U is) all (expected_no_more (base S q) word (next_position (word_built t.required) p)))
+    (fault_plain (shape_with t) (held_with S q) p word (word_built t.required) facts.0 facts.1 facts.2 known refl ∙ settle_is t S q pending
+    ∙ ap conflict clear)
+    (walked_plain (rules_with t) (held_with S q) p word (word_built t.required) facts.0 facts.1 facts.2 known refl refl
+    ∙ ap (λ (h : Held). at h idle (next_position (word_built t.required) p)) (positional_is t S q word pending clear))
+    (more (base S q) (Some (word_name, word)) (next_position (word_built t.required) p) U (found_word t) (regrouped (base S q) (
+      word_name,
+      word,
+    ) (uses parts rest) U is) all (expected_no_more (base S q) word (next_position (word_built t.required) p)))
 
 pub whole : (t : Form) → KeepsWord t.options → WellNamed t.options
     → (parts : List Part) (rest : Option (List TextBytes)) → Parts t.options parts

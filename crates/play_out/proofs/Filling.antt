@@ -90,7 +90,8 @@ others_are p player seed k own others f w a o h =
     h c ∙ (ap (λ v. nat_lt c (p.size * p.size) && not (has v c)) o
     ∙ other-of-full (p.size * p.size) c (has (stones_of full player) c)
     (has (stones_of full (other_of player)) c)
-    (ap (λ n. (nat_lt c (n * n) && not (has (stones_of full player) c)) && not (has (stones_of full (other_of player)) c)) (sym e) ∙ none player full c (full_after p player cells f c))
+    (ap (λ n. (nat_lt c (n * n) && not (has (stones_of full player) c)) && not (has (stones_of full (other_of player)) c)) (sym e)
+    ∙ none player full c (full_after p player cells f c))
     (λ t. subst (λ n. c < n * n) e (within c t)) (apart c)))
   where
     none : (player : Colour) (full : Position) (c : ℕ) → is_empty_at full c ≡ false

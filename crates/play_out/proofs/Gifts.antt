@@ -70,7 +70,11 @@ pub dealt-even : (before : ℕ) (cells next : List ℕ) (i : ℕ) → i + 1 ≡ 
 unfolding with_turns
 dealt-even before cells next i e len odd later = record {
   none = λ z. absurd (omega arith);
-  some = λ l. (odd, sym (ap (with_turns false before) (at-place next i 0 (omega arith)) ∙ ap (with_turns true before) (later ∙ drop_all (i + 1) cells (omega arith))));
+  some = λ l. (
+    odd,
+    sym (ap (with_turns false before) (at-place next i 0 (omega arith))
+        ∙ ap (with_turns true before) (later ∙ drop_all (i + 1) cells (omega arith))),
+  );
 }
 
 -- two cells more: the player gets the one at the even place

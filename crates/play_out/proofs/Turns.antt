@@ -35,7 +35,8 @@ rest_empty p player c left f k = elim (cases_eq c k) [
       (sym (counted_here k c left e) ∙ f k)
       ∙ sym (ap (λ b. cond b 1 0) (placed_leaves p player c k ∙ (ap (λ b. is_empty_at p k && not b) (eq-eqb k c (sym e)) ∙ and_no (is_empty_at p k))))
   | inr n ↦ sym (counted_later k c left n)
-      ∙ (f k ∙ sym (ap (λ b. cond b 1 0) (placed_leaves p player c k ∙ (ap (λ b. is_empty_at p k && not b) (ne_eqb k c (λ e. n (sym e))) ∙ and_yes (is_empty_at p k)))))
+      ∙ (f k ∙ sym (ap (λ b. cond b 1 0) (placed_leaves p player c k
+      ∙ (ap (λ b. is_empty_at p k && not b) (ne_eqb k c (λ e. n (sym e))) ∙ and_yes (is_empty_at p k)))))
 ]
   where
     and_no : (b : Bool) → (b && false) ≡ false

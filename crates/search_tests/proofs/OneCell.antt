@@ -195,7 +195,8 @@ all-fit = (
                                                       next-add _ one_cell (root_child ∷ []) 1 12 2 _ _ refl refl refl refl refl (adds 1) refl,
                                                       (λ e. cc),
                                                       (
-                                                        note-fits _ one_cell (root_child ∷ []) 1 12 24 _ refl refl refl refl (adds 1) (ap (record_word 12) (won 1)),
+                                                        note-fits _ one_cell (root_child
+                                                            ∷ []) 1 12 24 _ refl refl refl refl (adds 1) (ap (record_word 12) (won 1)),
                                                         (λ e. cc),
                                                         (draw-fits _ refl refl refl refl, (λ e. cc), (draw-fits _ refl refl refl refl, (λ e. cc), tt)),
                                                       ),

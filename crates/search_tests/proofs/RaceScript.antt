@@ -96,7 +96,8 @@ abbrev pub script : List ScriptLine
 script = looks ++ (walk ++ (first_writes ++ (second_writes ++ links)))
 
 looks-fit : AllFit (two_seats) looks
-unfolding allowed_cells has_cell empties_of set_of block_words drew known_after loads_after looked claimed_at wrote published added_at noted with_word kept_part
+unfolding allowed_cells has_cell empties_of set_of block_words drew known_after loads_after looked claimed_at wrote published added_at noted with_word
+    kept_part
 looks-fit = (
   omega arith,
   (λ e. cc),
@@ -169,7 +170,15 @@ looks-fit = (
                                               (
                                                 omega arith,
                                                 (λ e. cc),
-                                                (omega arith, (λ e. cc), (omega arith, (λ e. cc), (omega arith, (λ e. cc), (omega arith, (λ e. cc), (omega arith, (λ e. cc), tt))))),
+                                                (
+                                                  omega arith,
+                                                  (λ e. cc),
+                                                  (
+                                                    omega arith,
+                                                    (λ e. cc),
+                                                    (omega arith, (λ e. cc), (omega arith, (λ e. cc), (omega arith, (λ e. cc), tt))),
+                                                  ),
+                                                ),
                                               ),
                                             ),
                                           ),
@@ -196,7 +205,8 @@ looks-fit = (
 )
 
 walk-fit : FillsForWhite → AllFit (after_script (two_seats) looks) walk
-unfolding allowed_cells has_cell empties_of set_of block_words drew known_after loads_after looked claimed_at wrote published added_at noted with_word kept_part
+unfolding allowed_cells has_cell empties_of set_of block_words drew known_after loads_after looked claimed_at wrote published added_at noted with_word
+    kept_part
 walk-fit ends = (
   first-add ends,
   (λ e. cc),
@@ -244,7 +254,8 @@ walk-fit ends = (
 )
 
 first-writes-fit : AllFit (after_script (after_script (two_seats) looks) walk) first_writes
-unfolding allowed_cells has_cell empties_of set_of block_words drew known_after loads_after looked claimed_at wrote published added_at noted with_word kept_part
+unfolding allowed_cells has_cell empties_of set_of block_words drew known_after loads_after looked claimed_at wrote published added_at noted with_word
+    kept_part
 first-writes-fit = (
   write-fits _ _ _ refl (omega arith) refl,
   (λ e. cc),
@@ -304,7 +315,8 @@ first-writes-fit = (
 )
 
 second-writes-fit : AllFit (after_script (after_script (after_script (two_seats) looks) walk) first_writes) second_writes
-unfolding allowed_cells has_cell empties_of set_of block_words drew known_after loads_after looked claimed_at wrote published added_at noted with_word kept_part
+unfolding allowed_cells has_cell empties_of set_of block_words drew known_after loads_after looked claimed_at wrote published added_at noted with_word
+    kept_part
 second-writes-fit = (
   write-fits _ _ _ refl (omega arith) refl,
   (λ e. cc),
@@ -364,7 +376,8 @@ second-writes-fit = (
 )
 
 links-fit : AllFit (after_script (after_script (after_script (after_script (two_seats) looks) walk) first_writes) second_writes) links
-unfolding allowed_cells has_cell empties_of set_of block_words drew known_after loads_after looked claimed_at wrote published added_at noted with_word kept_part
+unfolding allowed_cells has_cell empties_of set_of block_words drew known_after loads_after looked claimed_at wrote published added_at noted with_word
+    kept_part
 links-fit = (
   record {
     block = record { start = 30; size = 16; written = written };

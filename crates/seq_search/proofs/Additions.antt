@@ -43,7 +43,8 @@ module _ (b n set amount : ℕ) (before now : List ℕ) (s : Sighted b n set amo
       record {
         long = ap length is ∙ length-set now j v ∙ s.long;
         seen = λ k lk. ⊎_elim (λ (m : k < n). other (node_at b k + 3) (λ e. omega (arith, m, e)) ∙ s.seen k m)
-            (λ (e : k ≡ n). subst (λ (m : ℕ). slice_index after (node_at b m + 3) ≡ slice_index before (node_at b m + 3) + cond (has_cell set (cell_in (slice_index before (node_at b m)))) amount 0) (sym e) seen)
+            (λ (e : k ≡ n). subst (λ (m : ℕ). slice_index after (node_at b m + 3) ≡ slice_index before (node_at b m + 3)
+            + cond (has_cell set (cell_in (slice_index before (node_at b m)))) amount 0) (sym e) seen)
             (last k lk);
         others = λ i h'. other i (h' n (omega arith))
             ∙ s.others i (λ k lk. h' k (omega (arith, lk)));

@@ -95,7 +95,8 @@ module _ (s : Setting) (bs : List LinkedBlock) (before after : List ℕ) (k : �
       → get_or after i 0 ≡ get_or before i 0
   unfolding n
   off i m low d =
-      l.each i d ∙ ap (λ (t : Bool). cond (t && is_header_or_move (i - n.start)) (header_or_move n (i - n.start)) (get_or (set before 0 next) i 0)) (false_from_ne_true (covers i n) (λ t. let u = covers_of i n t in omega arith))
+      l.each i d ∙ ap (λ (t : Bool). cond (t && is_header_or_move (i - n.start)) (header_or_move n (i - n.start)) (get_or (set before 0 next) i 0))
+      (false_from_ne_true (covers i n) (λ t. let u = covers_of i n t in omega arith))
       ∙ get_or-set_other before 0 i next 0 (λ z. omega arith)
 
   off-past : (i : ℕ) → next ≤ i → get_or after i 0 ≡ 0
@@ -103,7 +104,8 @@ module _ (s : Setting) (bs : List LinkedBlock) (before after : List ℕ) (k : �
   off-past i m =
       let low = leaf_lies in
       l.each i (λ z. omega arith)
-      ∙ ap (λ (t : Bool). cond (t && is_header_or_move (i - n.start)) (header_or_move n (i - n.start)) (get_or (set before 0 next) i 0)) (false_from_ne_true (covers i n) (λ t. let u = covers_of i n t in omega (arith, u.1)))
+      ∙ ap (λ (t : Bool). cond (t && is_header_or_move (i - n.start)) (header_or_move n (i - n.start)) (get_or (set before 0 next) i 0))
+      (false_from_ne_true (covers i n) (λ t. let u = covers_of i n t in omega (arith, u.1)))
       ∙ get_or-set_other before 0 i next 0 (λ z. omega arith) ∙ h.fresh i (omega arith)
 
   -- the new block's words
@@ -114,7 +116,8 @@ module _ (s : Setting) (bs : List LinkedBlock) (before after : List ℕ) (k : �
       let low = leaf_lies in
       let at : n.start + i - n.start ≡ i = omega arith in
       l.each (n.start + i) (λ z. omega arith)
-      ∙ ap (λ (u : Bool). cond (u && is_header_or_move (n.start + i - n.start)) (header_or_move n (n.start + i - n.start)) (get_or (set before 0 next) (n.start + i) 0)) (covers_if (n.start + i) n (omega arith) (omega (arith, m)))
+      ∙ ap (λ (u : Bool). cond (u && is_header_or_move (n.start + i - n.start)) (header_or_move n (n.start
+      + i - n.start)) (get_or (set before 0 next) (n.start + i) 0)) (covers_if (n.start + i) n (omega arith) (omega (arith, m)))
       ∙ ap (λ (j : ℕ). cond (is_header_or_move j) (header_or_move n j) (get_or (set before 0 next) (n.start + i) 0)) at
       ∙ ap (λ (u : Bool). cond u (header_or_move n i) (get_or (set before 0 next) (n.start + i) 0)) t
 
@@ -124,7 +127,8 @@ module _ (s : Setting) (bs : List LinkedBlock) (before after : List ℕ) (k : �
       let low = leaf_lies in
       let at : n.start + i - n.start ≡ i = omega arith in
       l.each (n.start + i) (λ z. omega arith)
-      ∙ ap (λ (u : Bool). cond (u && is_header_or_move (n.start + i - n.start)) (header_or_move n (n.start + i - n.start)) (get_or (set before 0 next) (n.start + i) 0)) (covers_if (n.start + i) n (omega arith) (omega (arith, m)))
+      ∙ ap (λ (u : Bool). cond (u && is_header_or_move (n.start + i - n.start)) (header_or_move n (n.start
+      + i - n.start)) (get_or (set before 0 next) (n.start + i) 0)) (covers_if (n.start + i) n (omega arith) (omega (arith, m)))
       ∙ ap (λ (j : ℕ). cond (is_header_or_move j) (header_or_move n j) (get_or (set before 0 next) (n.start + i) 0)) at
       ∙ ap (λ (u : Bool). cond u (header_or_move n i) (get_or (set before 0 next) (n.start + i) 0)) t
       ∙ get_or-set_other before 0 (n.start + i) next 0 (λ z. omega arith)
@@ -152,7 +156,10 @@ module _ (s : Setting) (bs : List LinkedBlock) (before after : List ℕ) (k : �
   counts-old : (x : ℕ) → is_node (root_at s) bs x ≡ true → (tally_in after x ≡ tally_in before x)
       × (seen_in after x ≡ seen_in before x)
   counts-old x t
-      = (ap count_in (old-word x 2 t (omega arith) (omega arith) (λ a b. omega arith)), ap count_in (old-word x 3 t (omega arith) (omega arith) (λ a b. omega arith)))
+      = (
+        ap count_in (old-word x 2 t (omega arith) (omega arith) (λ a b. omega arith)),
+        ap count_in (old-word x 3 t (omega arith) (omega arith) (λ a b. omega arith)),
+      )
 
   counts-new : (x : ℕ) → has_node n x ≡ true → (tally_in after x ≡ nothing)
       × (seen_in after x ≡ nothing)
@@ -191,7 +198,8 @@ module _ (s : Setting) (bs : List LinkedBlock) (before after : List ℕ) (k : �
   next-is =
       let low = leaf_lies in
       l.each 0 (λ z. omega arith)
-      ∙ ap (λ (t : Bool). cond (t && is_header_or_move (0 - n.start)) (header_or_move n (0 - n.start)) (get_or (set before 0 next) 0 0)) (false_from_ne_true (covers 0 n) (λ t. let u = covers_of 0 n t in omega (arith, u.0, h.next.0)))
+      ∙ ap (λ (t : Bool). cond (t && is_header_or_move (0 - n.start)) (header_or_move n (0 - n.start)) (get_or (set before 0 next) 0 0))
+      (false_from_ne_true (covers 0 n) (λ t. let u = covers_of 0 n t in omega (arith, u.0, h.next.0)))
       ∙ zero-set before next (omega (arith, h.long))
     where
       zero-set : (ws : List ℕ) (m : ℕ) → 0 < length ws → get_or (set ws 0 m) 0 0 ≡ m
@@ -230,7 +238,8 @@ module _ (s : Setting) (bs : List LinkedBlock) (before after : List ℕ) (k : �
             new-word x 1 t (omega arith) (omega arith)
             ∙ sym (ap (λ (u : Bool). cond u n.start (link_of bs x)) far ∙ link-none (root_at s) bs x h.linked.order none))
             (λ (t : is_node (root_at s) bs x ≡ true). ⊎_elim
-            (λ (q : x ≡ leaf). ap (λ (z : ℕ). get_or after (z + 1) 0) q ∙ l.link ∙ sym (ap (λ (u : Bool). cond u n.start (link_of bs x)) (eq-eqb leaf x (sym q))))
+            (λ (q : x ≡ leaf). ap (λ (z : ℕ). get_or after (z + 1) 0) q ∙ l.link
+            ∙ sym (ap (λ (u : Bool). cond u n.start (link_of bs x)) (eq-eqb leaf x (sym q))))
             (λ (q : x ≡ leaf → ⊥). old-word x 1 t (omega arith) (omega arith) (λ a b. q a) ∙ h.linked.shows.links x t
             ∙ sym (ap (λ (u : Bool). cond u n.start (link_of bs x)) (ne_eqb leaf x (λ z. q (sym z)))))
             (cases_eq x leaf))
@@ -246,12 +255,18 @@ module _ (s : Setting) (bs : List LinkedBlock) (before after : List ℕ) (k : �
               (complete, complete-more s (next_in before) next bs grew h.linked.complete);
         };
         filled = (some, h.filled);
-        root = (off (root_at s) (omega arith) (omega (arith, h.next.0)) (λ z. omega (arith, low.0)) ∙ h.root.0, off (root_at s + 3) (omega arith) (omega (arith, h.next.0)) (λ z. omega (arith, low.0)) ∙ h.root.1);
+        root = (
+          off (root_at s) (omega arith) (omega (arith, h.next.0)) (λ z. omega (arith, low.0)) ∙ h.root.0,
+          off (root_at s + 3) (omega arith) (omega (arith, h.next.0)) (λ z. omega (arith, low.0)) ∙ h.root.1,
+        );
         next = (omega (arith, next-is, grew, h.next.0), omega (arith, next-is, grown, room));
         fresh = λ i m. off-past i (omega (arith, next-is, m));
         counts = λ x m. ⊎_elim
             (λ (t : has_node n x ≡ true). let c = counts-new x t in (at-most-none k (tally_in after x) c.0, at-most-none k (seen_in after x) c.1))
-            (λ (t : is_node (root_at s) bs x ≡ true). let c = counts-old x t in let u = h.counts x t in (subst (AtMost k) (sym c.0) u.0, subst (AtMost k) (sym c.1) u.1))
+            (λ (t : is_node (root_at s) bs x ≡ true). let c = counts-old x t in let u = h.counts x t in (
+              subst (AtMost k) (sym c.0) u.0,
+              subst (AtMost k) (sym c.1) u.1,
+            ))
             (or_cases (has_node n x) (is_node (root_at s) bs x) m);
       }
     where
@@ -295,8 +310,12 @@ module _ (s : Setting) (bs : List LinkedBlock) (before after : List ℕ) (k : �
       record {
         next = next-is ∙ rule ∙ (λ i. next_after s (next_in before) (count i) (is_spot i));
         block = inl (n, new);
-        tally = λ w e. ⊎_elim (λ (t : has_node n w ≡ true). (counts-new w t).0 ∙ sym (counts-fresh w t).0) (λ (t : is_node (root_at s) bs w ≡ true). (counts-old w t).0) (or_cases (has_node n w) (is_node (root_at s) bs w) (node w e));
-        seen = λ w e d. ⊎_elim (λ (t : has_node n w ≡ true). (counts-new w t).1 ∙ sym (counts-fresh w t).1) (λ (t : is_node (root_at s) bs w ≡ true). (counts-old w t).1) (or_cases (has_node n w) (is_node (root_at s) bs w) (node w e));
+        tally = λ w e. ⊎_elim (λ (t : has_node n w ≡ true). (counts-new w t).0
+            ∙ sym (counts-fresh w t).0) (λ (t : is_node (root_at s) bs w
+            ≡ true). (counts-old w t).0) (or_cases (has_node n w) (is_node (root_at s) bs w) (node w e));
+        seen = λ w e d. ⊎_elim (λ (t : has_node n w ≡ true). (counts-new w t).1
+            ∙ sym (counts-fresh w t).1) (λ (t : is_node (root_at s) bs w
+            ≡ true). (counts-old w t).1) (or_cases (has_node n w) (is_node (root_at s) bs w) (node w e));
       }
 
   new-keeps : KeepsRecords s before after
@@ -400,7 +419,8 @@ no-block s bs before after k leaf p set h is_leaf is_spot w t =
     let v : Count = tally_in before leaf in
     let whole : Whole (root_at s) bs = record { order = h.linked.order; filled = h.filled } in
     let small : size_below p ≤ MOST_BLOCK_WORDS = size-most p (subst (λ (z : ℕ). z ≤ 11)
-    (sym (ap (λ (z : NodeState). z.board.size) (is_spot ∙ sym (leaf-spot s (tally_in before) (seen_in before) bs whole)) ∙ spot-size s bs (leaf_at (search_game s) (tally_in before) (seen_in before) (oldest_first bs) (root_at s)))) set.position.most) in
+    (sym (ap (λ (z : NodeState). z.board.size) (is_spot ∙ sym (leaf-spot s (tally_in before) (seen_in before) bs whole))
+    ∙ spot-size s bs (leaf_at (search_game s) (tally_in before) (seen_in before) (oldest_first bs) (root_at s)))) set.position.most) in
     let none = w.none t in
     let range : (n ≤ next_in after) × (next_in after ≤ end_of s + MOST_BLOCK_WORDS) = ⊎_elim
     (λ (a : asks s n v p ≡ true). let u = next-vain s n v p t a in (omega (arith, w.next, u.1), omega (arith, w.next, u.0, u.1, small)))

@@ -22,7 +22,10 @@ module _ (s : Setting) (words : List ℕ) (e : ℕ) (set : IsSetting s) (empties
         long = long;
         linked = opening-linked s words e set empties long each;
         filled = opening-nodes s words e set empties long each;
-        root = (ap (λ (z : ℕ). get_or words z 0) (omega arith) ∙ root-word s words e set empties long each 0 (omega arith) (λ z. omega arith), root-word s words e set empties long each 3 (omega arith) (λ z. omega arith));
+        root = (
+          ap (λ (z : ℕ). get_or words z 0) (omega arith) ∙ root-word s words e set empties long each 0 (omega arith) (λ z. omega arith),
+          root-word s words e set empties long each 3 (omega arith) (λ z. omega arith),
+        );
         next = (omega (arith, next), omega (arith, next, fit));
         fresh = λ i l. clear s words e set empties long each i (omega (arith, l, next))
             (λ z. omega (arith, l, next, z)) (inr (omega (arith, l, next)));

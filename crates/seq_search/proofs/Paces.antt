@@ -216,12 +216,14 @@ module _ (s : Setting) (bs : List LinkedBlock) (o : Ending) (before : List ℕ) 
 
         -- the words after the block's nodes were seen
         module _ (after : List ℕ)
-            (lit : Sighted b.start (length b.cells) (stones_of o.full who) (amount_of (is_same o.winner who)) gained after) (cells : (j : ℕ) → j < length b.cells → cell_at b j < 256) where
+            (lit : Sighted b.start (length b.cells) (stones_of o.full who) (amount_of (is_same o.winner who)) gained after) (cells : (j : ℕ)
+            → j < length b.cells → cell_at b j < 256) where
           after-tally : (v : ℕ) → is_node (root_at s) bs v ≡ true
               → tally_in after v ≡ tally_in gained v
           after-tally v n
               = ap count_in
-              (lit.others (v + 2) (λ j l e. let q = nodes-apart (root_at s) bs v (child b j) 2 3 h.linked.order n (kid-node j l) (omega arith) (omega arith) e in omega arith))
+              (lit.others (v + 2) (λ j l e. let q = nodes-apart (root_at s) bs v (child b j) 2 3 h.linked.order n (kid-node j l) (omega arith) (omega arith) e
+              in omega arith))
 
           after-past : (v : ℕ) → is_node (root_at s) bs v ≡ true → has_node b v ≡ false
               → seen_in after v ≡ seen_in gained v
@@ -238,7 +240,8 @@ module _ (s : Setting) (bs : List LinkedBlock) (o : Ending) (before : List ℕ) 
               let most : AtMost (k + 1) (seen_in gained (child b j))
               = subst (AtMost (k + 1)) (sym (gained-seen (child b j) (kid-node j l)))
               (seen-most (child b j) (kid-node j l)) in
-              ap count_in (lit.seen j l ∙ ap (λ (z : ℕ). slice_index gained (child b j + 3) + cond (has_cell (stones_of o.full who) z) (amount_of (is_same o.winner who)) 0) cell)
+              ap count_in (lit.seen j l ∙ ap (λ (z : ℕ). slice_index gained (child b j + 3)
+              + cond (has_cell (stones_of o.full who) z) (amount_of (is_same o.winner who)) 0) cell)
               ∙ word-glimpse (slice_index gained (child b j + 3))
               (has_cell (stones_of o.full who) (cell_at b j)) (is_same o.winner who)
               (let v = most.1 in omega (arith, v, few))
@@ -300,7 +303,11 @@ module _ (s : Setting) (bs : List LinkedBlock) (o : Ending) (before : List ℕ) 
                     = after-tally v n ∙ gained-tally v n in
                     (λ e. plus (mine e) (adds g p q o os (at e) (spot e) v))
                     ∙ join (x == v) (tally_in now v) (gain_of o (node_state s bs x)) later
-                    (λ t. adds-before s p q o os (child b i) (state_after (node_state s bs x) (cell_at b i)) v above (let e = eqb-true x v t in omega (arith, behind, e)))
+                    (λ t. adds-before s p q o os (child b i) (state_after (node_state s bs x) (cell_at b i)) v above (let e = eqb-true x v t in omega (
+                      arith,
+                      behind,
+                      e,
+                    )))
                     ∙ ap (plus (tally_in now v))
                     (sym (adds-link g fair p q o os x b (node_state s bs x) v rooted w.names w.some))
                     ∙ a.tally v n;
@@ -312,7 +319,9 @@ module _ (s : Setting) (bs : List LinkedBlock) (o : Ending) (before : List ℕ) 
                     ∙ join (has_node b v) (seen_in now v)
                     (glimpse_of o (node_state s bs x) (cell_at b (place b v))) later
                     (λ t. sees-before s p q o os (child b i) (state_after (node_state s bs x) (cell_at b i)) v above
-                    (λ c m l. false_from_ne_true (has_node c v) (λ u. let e = has-one (root_at s) bs b c v h.linked.order w.inside (in-turned c bs m) t u in let f : b.parent ≡ c.parent = ap (λ (d : LinkedBlock). d.parent) e in omega (arith, f, l, behind, w.parent))))
+                    (λ c m l. false_from_ne_true (has_node c v)
+                    (λ u. let e = has-one (root_at s) bs b c v h.linked.order w.inside (in-turned c bs m) t u in let f : b.parent
+                    ≡ c.parent = ap (λ (d : LinkedBlock). d.parent) e in omega (arith, f, l, behind, w.parent))))
                     ∙ ap (plus (seen_in now v))
                     (sym (sees-link g fair p q o os x b (node_state s bs x) v rooted w.names w.some))
                     ∙ a.seen v n;
@@ -352,7 +361,8 @@ module _ (s : Setting) (bs : List LinkedBlock) (o : Ending) (before : List ℕ) 
               (λ (t : (link_in before x == 0) ≡ false).
               let m = below s bs before k h x a.node
               (λ z. clash (link_in before x == 0) (eq-eqb (link_in before x) 0 z) t) in
-              absurd (no-cons _ _ (sym (steps-link (search_game s) (fair_game s) (tally_in before) (seen_in before) (oldest_first bs) x m.0 (rooted-turned (root_at s) bs h.linked.order) m.1.names m.1.some) ∙ sym a.rest ∙ e)))
+              absurd (no-cons _ _ (sym (steps-link (search_game s) (fair_game s) (tally_in before) (seen_in before) (oldest_first bs) x m.0
+              (rooted-turned (root_at s) bs h.linked.order) m.1.names m.1.some) ∙ sym a.rest ∙ e)))
               (cases_Bool (link_in before x == 0))
 
     -- if a step is left, the node has a block
@@ -480,7 +490,8 @@ module _ (s : Setting) (before : List ℕ) (d : Descent) (o : Ending) (now : Lis
         (subst (λ (i : ℕ). Sighted block n set i gained after) hm lit))) in
         subst (λ (i : ℕ). Adding s bs o before after i who' rest) (sym hy)
         (subst (λ (i : Colour). Adding s bs o before after y i rest) (sym hw)
-        (paced s bs o before k h few now x who left ad gained is b bl.1 after lit' (λ j lj. kid-small s z (cell_at b j) (kid-cell s bs before k z h x b bl.1 j lj)) y rest cons))
+        (paced s bs o before k h few now x who left ad gained is b bl.1 after lit'
+        (λ j lj. kid-small s z (cell_at b j) (kid-cell s bs before k z h x b bl.1 j lj)) y rest cons))
 
   -- the last gain
   pub pace-last : left ≡ [] → (gained : List ℕ)

@@ -30,7 +30,8 @@ descended-same s bs before after d same w =
       node = w.node;
       spot = w.spot;
       leaf = (λ i. leaf_at (search_game s) (tally i) (seen i) (oldest_first bs) (root_at s)) ∙ w.leaf;
-      state = (λ i. state_at (search_game s) (tally i) (seen i) (oldest_first bs) (root_at s) (root_state s)) ∙ w.state ∙ (λ i. (sym tally i d.node, spot_in d));
+      state = (λ i. state_at (search_game s) (tally i) (seen i) (oldest_first bs) (root_at s) (root_state s)) ∙ w.state
+          ∙ (λ i. (sym tally i d.node, spot_in d));
       steps = (λ i. steps_at (search_game s) (tally i) (seen i) (oldest_first bs) (root_at s)) ∙ w.steps;
       bare = same (d.node + 1) (omega arith) ∙ w.bare;
       few = w.few;

@@ -30,7 +30,8 @@ module _ {S O : Type 0} (g : Game S O) (p q : ℕ → Count) (o : O) where
   sees-out [] x w s out = refl
   sees-out (b ∷ os) x w s out = down-split (sees_leaf g p q o) (sees_inner g p q o)
       (λ (f : S → ℕ → Count). f s w ≡ nothing) b os x
-      (λ t. ap (λ (u : Bool). cond u (g.glimpse o s (cell_at b (place b w))) (sees g p q o os (child b (pick g p q b x)) (g.next s (cell_at b (pick g p q b x))) w)) out.0
+      (λ t. ap (λ (u : Bool). cond u (g.glimpse o s (cell_at b (place b w)))
+      (sees g p q o os (child b (pick g p q b x)) (g.next s (cell_at b (pick g p q b x))) w)) out.0
       ∙ sees-out os (child b (pick g p q b x)) w (g.next s (cell_at b (pick g p q b x))) out.1)
       (λ t. sees-out os x w s out.1)
 
@@ -91,7 +92,8 @@ module _ (s : Setting) (bs : List LinkedBlock) (before middle : List ℕ) (k n :
       ) in
       let unseen : seen_in after r ≡ nothing
       = seen-is r (root_node r bs)
-      ∙ (λ i. plus (count_in (h.root.1 i)) (sees-out g (tally_in before) (seen_in before) o (oldest_first bs) r r (root_state s) (root-out r bs h.linked.order) i)) in
+      ∙ (λ i. plus (count_in (h.root.1 i)) (sees-out g (tally_in before) (seen_in before) o (oldest_first bs) r r (root_state s)
+      (root-out r bs h.linked.order) i)) in
       record {
         long = length-set middle (2 + k) n ∙ c.long ∙ h.long;
         linked = record {
@@ -100,7 +102,10 @@ module _ (s : Setting) (bs : List LinkedBlock) (before middle : List ℕ) (k n :
             blocks = λ b i m li t.
                 let start = block-starts s (next_in before) bs b h.linked.complete m in
                 high (b.start + i) (omega (arith, start))
-                (λ w u. (stays-clear r bs b i w 2 h.linked.order m li t u (omega arith) (omega arith), stays-clear r bs b i w 3 h.linked.order m li t u (omega arith) (omega arith)))
+                (λ w u. (
+                  stays-clear r bs b i w 2 h.linked.order m li t u (omega arith) (omega arith),
+                  stays-clear r bs b i w 3 h.linked.order m li t u (omega arith) (omega arith),
+                ))
                 ∙ h.linked.shows.blocks b i m li t;
             links = λ x m. let q = lies x m in
                 high (x + 1) (omega (arith, q.0)) (clear x 1 m (omega arith))
@@ -109,10 +114,17 @@ module _ (s : Setting) (bs : List LinkedBlock) (before middle : List ℕ) (k n :
           complete = subst (λ (z : ℕ). AreComplete s z bs) (sym next-same) h.linked.complete;
         };
         filled = h.filled;
-        root = (high r (omega arith) (λ w t. ((λ z. (clear r 0 (root_node r bs) (omega arith) w t).0 (omega (arith, z))), (λ z. (clear r 0 (root_node r bs) (omega arith) w t).1 (omega (arith, z))))) ∙ h.root.0, no-word (get_or after (r + 3) 0) unseen);
+        root = (
+          high r (omega arith) (λ w t. (
+            (λ z. (clear r 0 (root_node r bs) (omega arith) w t).0 (omega (arith, z))),
+            (λ z. (clear r 0 (root_node r bs) (omega arith) w t).1 (omega (arith, z))),
+          )) ∙ h.root.0,
+          no-word (get_or after (r + 3) 0) unseen,
+        );
         next = (omega (arith, next-same, h.next.0), omega (arith, next-same, h.next.1));
         fresh = λ i m. high i (omega (arith, m, next-same, h.next.0))
-            (λ w t. let q = lies w t in ((λ z. omega (arith, z, q.1, m, next-same)), (λ z. omega (arith, z, q.1, m, next-same)))) ∙ h.fresh i (omega (arith, m, next-same));
+            (λ w t. let q = lies w t in ((λ z. omega (arith, z, q.1, m, next-same)), (λ z. omega (arith, z, q.1, m, next-same))))
+            ∙ h.fresh i (omega (arith, m, next-same));
         counts = λ x m. (
           plus-most k (tally_in before x) _ (tally_in after x) (tally-is x m) (h.counts x m).0
               (adds-one s (tally_in before) (seen_in before) o (oldest_first bs) r (root_state s) x),

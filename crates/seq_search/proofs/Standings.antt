@@ -128,7 +128,8 @@ module _ (s : Setting) (bs : List LinkedBlock) (words after : List ℕ) (k : ℕ
             (or_cases (has_node n x) (is_node r bs x) m)
             ∙ sym (visits-words s (n ∷ bs) words after k same x));
         seen = λ b y i h. seen b y i h ∙ (⊎_elim
-            (λ (e : b ≡ n). (blank y (ap (λ (d : LinkedBlock). has_node d y) (sym e) ∙ h)).1 ∙ sym (ap (λ (d : LinkedBlock). sights_at s (n ∷ bs) words k d y) e ∙ sights-new s n bs f words k nodes y))
+            (λ (e : b ≡ n). (blank y (ap (λ (d : LinkedBlock). has_node d y) (sym e) ∙ h)).1
+            ∙ sym (ap (λ (d : LinkedBlock). sights_at s (n ∷ bs) words k d y) e ∙ sights-new s n bs f words k nodes y))
             (λ (j : In b bs). st.exact.seen b y j h ∙ sym (sights-block s n bs f words k nodes b y (in-node r bs b y j h)))
             i
             ∙ sym (sights-words s (n ∷ bs) words after k same b y));
@@ -146,7 +147,11 @@ module _ (s : Setting) (bs : List LinkedBlock) (words after : List ℕ) (k : ℕ
             (λ (j : In b bs).
             let nx : is_node r bs x ≡ true = in-node r bs b x j hx in
             let ny : is_node r bs y ≡ true = in-node r bs b y j hy in
-            omega (arith, st.first b x y j hx hy (sym (ap (λ (c : Count). c.visits) (tally y (old y ny))) ∙ z), ap (λ (c : Count). c.visits) (tally x (old x nx))))
+            omega (
+              arith,
+              st.first b x y j hx hy (sym (ap (λ (c : Count). c.visits) (tally y (old y ny))) ∙ z),
+              ap (λ (c : Count). c.visits) (tally x (old x nx)),
+            ))
             i;
         leaves = λ l x c m e. ⊎_elim
             (λ (h : has_node n x ≡ true). omega (arith, ends-words s bs words after k same x, ends-new s n bs f words k nodes x h))
@@ -194,7 +199,12 @@ standing-widened s bs cs words after k set few h st h' w keeps =
     let spot : node_state s bs (leaf_at g (tally_in words) (seen_in words) (oldest_first bs) r) ≡ p
     = leaf-spot s (tally_in words) (seen_in words) bs (whole s bs words k h) in
     let small : p.board.size ≤ 11
-    = omega (arith, ap (λ (z : NodeState). z.board.size) spot, spot-size s bs (leaf_at g (tally_in words) (seen_in words) (oldest_first bs) r), set.position.most) in
+    = omega (
+      arith,
+      ap (λ (z : NodeState). z.board.size) spot,
+      spot-size s bs (leaf_at g (tally_in words) (seen_in words) (oldest_first bs) r),
+      set.position.most,
+    ) in
     ⊎_elim
     (λ (e : (n : LinkedBlock) × NewBlock g u r (config_of bs words) (config_of cs after) n).
     let n : LinkedBlock = e.0 in
@@ -275,12 +285,15 @@ standing-added s bs words after k n o low h st played sated a rec at won =
     = λ x m. a.tally x (node-top r bs x w.order m) ∙ ap (plus (p x)) (adds-at s p q bs w o x) in
     let exact : ExactTo s bs after (suc k) = record {
       tallies = λ x m. tally x m ∙ sym (visits-more s bs after k x
-          ∙ (λ i. plus ((visits-words s bs words after k same x ∙ sym (st.exact.tallies x m)) i) (cond (is_on s bs x (leaf i)) (gain_of (outcome i) (node_state s bs x)) nothing)));
+          ∙ (λ i. plus ((visits-words s bs words after k same x ∙ sym (st.exact.tallies x m)) i)
+          (cond (is_on s bs x (leaf i)) (gain_of (outcome i) (node_state s bs x)) nothing)));
       seen = λ b y i hy. a.seen y (node-top r bs y w.order (in-node r bs b y i hy))
           (not_root r bs b y w.order i hy)
           ∙ (ap (plus (q y)) (sees-at s p q bs w o b y i hy)
           ∙ sym (sights-more s bs after k b y w.order i hy
-          ∙ (λ t. plus ((sights-words s bs words after k same b y ∙ sym (st.exact.seen b y i hy)) t) (cond (enters s bs b (leaf t)) (glimpse_of (outcome t) (node_state s bs b.parent) (cell_at b (place b y))) nothing))));
+          ∙ (λ t. plus ((sights-words s bs words after k same b y
+          ∙ sym (st.exact.seen b y i hy)) t) (cond (enters s bs b (leaf t)) (glimpse_of (outcome t) (node_state s bs b.parent) (cell_at b (place b y)))
+          nothing))));
     } in
     let now : IsRecord s bs after k = record {
       node = ap (is_node r bs) leaf ∙ here.0;
@@ -329,7 +342,15 @@ standing-added s bs words after k n o low h st played sated a rec at won =
           = asks-not s (next_in words) v spot sated some low_next in
           let count : v ≡ p x = state-count g (fair_game s) p q (oldest_first bs) r (root_state s)
           ∙ ap p is in
-          omega (arith, before, ap one_if t, ends-visits s bs words k x m, ap (λ (z : Count). z.visits) (st.exact.tallies x m), ap (λ (z : Count). z.visits) count, fewer))
+          omega (
+            arith,
+            before,
+            ap one_if t,
+            ends-visits s bs words k x m,
+            ap (λ (z : Count). z.visits) (st.exact.tallies x m),
+            ap (λ (z : Count). z.visits) count,
+            fewer,
+          ))
           (λ (t : (leaf_of after k == x) ≡ false). omega (arith, before, ap one_if t, st.leaves low_next x c m e))
           (cases_Bool (leaf_of after k == x));
       within = λ l. a.next ∙ st.within (omega (arith, l, a.next));

@@ -242,7 +242,8 @@ begin-way s d board player node count bs words k h =
     let spot : spot_in d ≡ root_state s = λ i. record { board = board i; player = player i } in
     record {
       node = ap (is_node (root_at s) bs) node ∙ root_node (root_at s) bs;
-      spot = spot ∙ sym (ap (node_state s bs) node ∙ up-root (root_state s) (λ c y above. state_after above (cell_at c (place c y))) (root_at s) bs h.linked.order);
+      spot = spot ∙ sym (ap (node_state s bs) node ∙ up-root (root_state s) (λ c y above. state_after above (cell_at c (place c y))) (root_at s) bs
+          h.linked.order);
       leaf = ap (leaf_below s bs words) (sym node);
       state = sym (λ i. state_below s bs words (node i) (spot i));
       steps = sym (λ i. take (count i) d.steps ++ steps_below s bs words (node i));

@@ -236,6 +236,7 @@ root_well_placed start h b w a =
 pub start_again : (start : Position) → start.size ≤ 11 → Within start.size start.black
     → Within start.size start.white → start_of start.size (root_of start) ≡ start
 start_again start h b w =
-    ap (λ s. record { size = start.size; black = s; white = with_cells 0 (cells_named start.size (codes "AW") (root_of start)) }) (ap (with_cells 0) (black_cells start h) ∙ set_again start.size start.black h b)
+    ap (λ s. record { size = start.size; black = s; white = with_cells 0 (cells_named start.size (codes "AW") (root_of start)) })
+    (ap (with_cells 0) (black_cells start h) ∙ set_again start.size start.black h b)
     ∙ ap (λ s. record { size = start.size; black = start.black; white = s })
     (ap (with_cells 0) (white_cells start h) ∙ set_again start.size start.white h w)

@@ -190,7 +190,8 @@ well_set_up start steps h b w a
 root_turns : (start : Position) (steps : List Step) → start.size ≤ 11 → AreOn start.size steps
     → turns_of start.size (root_of start ∷ map (node_of_step start.size) steps) ≡ map turn_for steps
 root_turns start steps h o =
-    ap (λ (es : List Entry). map (turn_of start.size (length es == 1)) es ++ turns_of start.size (map (node_of_step start.size) steps)) (root_entries start) ∙ turns_again start.size steps h o
+    ap (λ (es : List Entry). map (turn_of start.size (length es == 1)) es ++ turns_of start.size (map (node_of_step start.size) steps)) (root_entries start)
+    ∙ turns_again start.size steps h o
 
 sized : (b : Bool) (r s : Result GameData GameError) → b ≡ false → cond b r s ≡ s
 sized b r s e = rw e refl

@@ -62,7 +62,8 @@ answers_ok bytes c text low = record {
   ok = (text, low);
   printable = text_has c.trees bytes text;
   text = λ trees other _. inl
-      (ap (λ all. let one : Collection = record { trees = all } in let found : Result Collection SgfError = Ok one in found) (one_collection c.trees trees bytes text other));
+      (ap (λ all. let one : Collection = record { trees = all } in let found : Result Collection SgfError = Ok one in found)
+      (one_collection c.trees trees bytes text other));
   too_deep = λ e. absurd (ok_is_no_err c TooDeep e);
   deep = λ deep. absurd (not_too_deep bytes c.trees text low deep);
   not_sgf = λ at e. absurd (ok_is_no_err c (NotSgf at) e);

@@ -66,11 +66,18 @@ Leads c w (Some t) = Rest c t w
 -- a tree that has been read whole is the first of the kids to come
 pub tree_before : (c : GameTrees) (outer : List Branch) (nodes : List Node) (kids : GameTrees)
     (ns : List Node) (ks : GameTrees) (from more : List ℕ)
-    → ((others : GameTrees) (r : List ℕ) → TreesText others more r → TreesText (tree ns ks others) from r) → Closes c outer nodes (join kids (tree ns ks none)) more → Closes c outer nodes kids from
+    → ((others : GameTrees) (r : List ℕ) → TreesText others more r → TreesText (tree ns ks others) from r)
+    → Closes c outer nodes (join kids (tree ns ks none)) more → Closes c outer nodes kids from
 tree_before c [] nodes kids ns ks from more whole (others, e, text) =
     (tree ns ks others, e ∙ join-join kids (tree ns ks none) others, whole others [] text)
-tree_before c (b ∷ outer) nodes kids ns ks from more whole (others, behind, next, text, g, closes) =
-    (tree ns ks others, behind, next, whole others (41 ∷ behind) text, g, subst (λ all. Closes c outer b.nodes (join b.kids (tree nodes all none)) next) (join-join kids (tree ns ks none) others) closes)
+tree_before c (b ∷ outer) nodes kids ns ks from more whole (others, behind, next, text, g, closes) = (
+  tree ns ks others,
+  behind,
+  next,
+  whole others (41 ∷ behind) text,
+  g,
+  subst (λ all. Closes c outer b.nodes (join b.kids (tree nodes all none)) next) (join-join kids (tree ns ks none) others) closes,
+)
 
 close_back : (c : GameTrees) (outer : List Branch) (nodes : List Node) (kids : GameTrees) (x : ℕ)
     (w : List ℕ) → x ≡ 41 → Leads c w (close_into outer nodes kids)
@@ -204,7 +211,15 @@ back c (opened o) x w =
     (Some (opened o)) (cond (x == 59) (Some (in_node o [])) None)
     (λ e found. (found.0, found.1, found.2, inr (e, found.3), found.4, found.5, found.6))
     (λ _. by_cond (λ next. Leads c w next → Rest c (opened o) (x ∷ w)) (x == 59) (Some (in_node o [])) None
-    (λ e (more, g, (more_ps, nodes, line, below, props, ns, closes)). (x ∷ w, record { props = more_ps } ∷ nodes, below, inl refl, tt, (line, (w, more, ap (λ y. y ∷ w) (eqb-true x 59 e), g, props), ns), closes))
+    (λ e (more, g, (more_ps, nodes, line, below, props, ns, closes)). (
+      x ∷ w,
+      record { props = more_ps } ∷ nodes,
+      below,
+      inl refl,
+      tt,
+      (line, (w, more, ap (λ y. y ∷ w) (eqb-true x 59 e), g, props), ns),
+      closes,
+    ))
     (λ _ never. absurd never))
 back c (in_node o ps) x w =
     by_cond (λ next. Leads c w next → Rest c (in_node o ps) (x ∷ w)) (is_white_space x)
@@ -216,7 +231,15 @@ back c (in_name o ps n) x w =
     (cond (x == 91) (Some (in_value o ps n [] [])) None) in
     by_cond (λ next. Leads c w next → Rest c (in_name o ps n) (x ∷ w)) (is_capital x)
     (Some (in_name o ps (n ++ x ∷ []))) ended
-    (λ e (m, gap, content, capitals, is, g, found). (x ∷ m, gap, content, (e, capitals), ap (λ y. x ∷ y) is, g, subst (λ all. ContentRest c o ps all [] [] content) (append_assoc n (x ∷ []) m) found))
+    (λ e (m, gap, content, capitals, is, g, found). (
+      x ∷ m,
+      gap,
+      content,
+      (e, capitals),
+      ap (λ y. x ∷ y) is,
+      g,
+      subst (λ all. ContentRest c o ps all [] [] content) (append_assoc n (x ∷ []) m) found,
+    ))
     (λ _ found. name_ends c o ps n (x ∷ w) (bracket_back c o ps n x w found))
 back c (after_name o ps n) x w = bracket_back c o ps n x w
 back c (in_value o ps n vs a) x w =
@@ -224,7 +247,8 @@ back c (in_value o ps n vs a) x w =
     by_cond (λ next. Leads c w next → ContentRest c o ps n vs a (x ∷ w)) (x == 92)
     (Some (escaped o ps n vs a))
     (cond (x == 93) (Some (after_value o ps n (vs ++ a ∷ []))) plain)
-    (λ e (y, more, is, found). plain_back c o ps n vs a y more (x ∷ w) (λ v gap text. (more, inr (ap (λ z. z ∷ w) (eqb-true x 92 e) ∙ ap (λ z. 92 ∷ z) is), text)) found)
+    (λ e (y, more, is, found). plain_back c o ps n vs a y more (x
+    ∷ w) (λ v gap text. (more, inr (ap (λ z. z ∷ w) (eqb-true x 92 e) ∙ ap (λ z. 92 ∷ z) is), text)) found)
     (λ slash. by_cond (λ next. Leads c w next → ContentRest c o ps n vs a (x ∷ w)) (x == 93) (Some (after_value o ps n (vs ++ a ∷ []))) plain
     (λ e. value_ends c o ps n vs a x w (eqb-true x 93 e))
     (λ bracket. plain_back c o ps n vs a x w (x ∷ w) (λ v gap text. (w, inl (different x 92 slash, different x 93 bracket, refl), text))))
@@ -236,7 +260,15 @@ back c (after_value o ps n vs) x w =
     (λ e found. (found.0, found.1, found.2, inr (e, found.3), found.4, found.5))
     (λ _. by_cond (λ next. Leads c w next → ValueRest c o ps n vs (x ∷ w)) (x == 91) (Some (in_value o ps n vs [])) on
     (λ e. next_value c o ps n vs x w (eqb-true x 91 e))
-    (λ _ found. (x ∷ w, [], x ∷ w, inl refl, refl, subst (λ all. NodeRest c o (add_prop ps n all) (x ∷ w)) (sym (append_nil vs)) (go_on_back c o (add_prop ps n vs) x w found))))
+    (λ _ found. (
+      x ∷ w,
+      [],
+      x ∷ w,
+      inl refl,
+      refl,
+      subst (λ all. NodeRest c o (add_prop ps n all) (x
+          ∷ w)) (sym (append_nil vs)) (go_on_back c o (add_prop ps n vs) x w found),
+    )))
 
 pub run_back : (c : GameTrees) (w : List ℕ) (next : Option State) (t : State) (r : List ℕ)
     → run_on next w ≡ Some t → Rest c t r → Leads c (w ++ r) next

@@ -24,13 +24,15 @@ pub is_final : (place : Place) (outer : List Parent) (nodes : List Node) (kids :
     → length outer ≡ 0 → 0 < length kids
     → IsFinal (state_in_place place (record { outer = stack outer []; nodes = nodes; kids = row kids }) props name values value) (row kids)
 is_final place outer nodes kids props name values value e ground some =
-    subst (λ p. IsFinal (state_in_place p (record { outer = stack outer []; nodes = nodes; kids = row kids }) props name values value) (row kids)) (sym e) (outside outer nodes kids props name values value ground some)
+    subst (λ p. IsFinal (state_in_place p (record { outer = stack outer []; nodes = nodes; kids = row kids }) props name values value) (row kids)) (sym e)
+    (outside outer nodes kids props name values value ground some)
 
 pub is_not_final : (place : Place) (outer : List Parent) (nodes : List Node) (kids : List Tree)
     (props : List Prop) (name : List ℕ) (values : List (List ℕ)) (value : List ℕ) → place ≡ Between
     → 0 < length outer → (trees : GameTrees)
     → IsFinal (state_in_place place (record { outer = stack outer []; nodes = nodes; kids = row kids }) props name values value) trees → ⊥
 is_not_final place outer nodes kids props name values value e many trees final =
-    let there = subst (λ p. IsFinal (state_in_place p (record { outer = stack outer []; nodes = nodes; kids = row kids }) props name values value) trees) e final in
+    let there = subst (λ p. IsFinal (state_in_place p (record { outer = stack outer []; nodes = nodes; kids = row kids }) props name values value) trees) e
+    final in
     let none_open : length (stack outer []) ≡ 0 = ap length there.0 in
     omega (arith, none_open, length-stack outer [])

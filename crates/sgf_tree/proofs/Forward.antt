@@ -115,7 +115,8 @@ prop_runs s o ps sits (x ∷ n) (v ∷ vs) w gap more r name filled e g
     ∙ named_runs o ps (x ∷ n) gap more value.0 g value.1
     ∙ content_runs o ps (x ∷ n) [] v value.0 after [] value.2
     ∙ gap_runs (after_value o ps (x ∷ n) now)
-    (λ y. cond (y == 91) (Some (in_value o ps (x ∷ n) now [])) (go_on o (add_prop ps (x ∷ n) now) y)) (λ y. refl) after rest g2 ∙ values_runs o ps (x ∷ n) now vs rest r others
+    (λ y. cond (y == 91) (Some (in_value o ps (x ∷ n) now [])) (go_on o (add_prop ps (x ∷ n) now) y)) (λ y. refl) after rest g2
+    ∙ values_runs o ps (x ∷ n) now vs rest r others
 
 pub props_runs : (s : State) (o : Open) (ps more_ps : List Prop) (w r : List ℕ) → Sits s o ps
     → PropsText more_ps w r → (t : State) × Sits t o (ps ++ more_ps) × (run s w ≡ run t r)
@@ -137,8 +138,11 @@ Ends t all = (o : Open) × (ps : List Prop) × Sits t o ps × (add_node o ps ≡
 pub nodes_runs : (s : State) (o : Open) (ps : List Prop) (nodes : List Node) (w r : List ℕ)
     → Sits s o ps → NodesText nodes w r → (t : State) × Ends t (add_nodes (add_node o ps) nodes)
     × (run s w ≡ run t r)
-nodes_runs s o ps [] w r sits e =
-    (s, (o, ps, sits, ap (λ ns. let all : Open = record { outer = o.outer; nodes = ns; kids = o.kids } in all) (sym (append_nil (add_node o ps).nodes))), ap (run s) e)
+nodes_runs s o ps [] w r sits e = (
+  s,
+  (o, ps, sits, ap (λ ns. let all : Open = record { outer = o.outer; nodes = ns; kids = o.kids } in all) (sym (append_nil (add_node o ps).nodes))),
+  ap (run s) e,
+)
 nodes_runs s o ps (n ∷ nodes) w r sits (more, (gap, line, e, g, props), others) =
     let in_it = in_node (add_node o ps) [] in
     let here = props_runs in_it (add_node o ps) [] n.props line more

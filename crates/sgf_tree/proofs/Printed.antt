@@ -93,8 +93,20 @@ trees_printed (tree nodes kids others) rest have =
     let under = trees_print kids ++ 41 ∷ behind in
     let line = flat_map node_print nodes ++ under in
     let all = ap (λ w. 40 ∷ w)
-    (regroup (flat_map node_print nodes) (trees_print kids) (trees_print others) rest) in
-    (line, line, under, behind, behind, have.0, all, gap_none line, nodes_printed nodes under have.1, trees_printed kids (41 ∷ behind) have.2, gap_none behind, trees_printed others rest have.3)
+    (regroup (flat_map node_print nodes) (trees_print kids) (trees_print others) rest) in (
+      line,
+      line,
+      under,
+      behind,
+      behind,
+      have.0,
+      all,
+      gap_none line,
+      nodes_printed nodes under have.1,
+      trees_printed kids (41 ∷ behind) have.2,
+      gap_none behind,
+      trees_printed others rest have.3,
+    )
 
 pub text_printed : (trees : GameTrees) → HasText trees → Text trees (trees_print trees)
 text_printed trees have =

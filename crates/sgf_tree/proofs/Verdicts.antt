@@ -85,7 +85,8 @@ longest_of p (x ∷ q) s e stops =
 
 -- the reader goes on up to a byte that can't stand there, or to the end
 further_by : (x : ℕ) (q : List ℕ) (s : State) (next : Option State) → step s x ≡ next
-    → ((u : State) → (q1 : List ℕ) × (q2 : List ℕ) × (t : State) × (q ≡ q1 ++ q2) × (run u q1 ≡ Some t) × IsStuckAt t q2) → (q1 : List ℕ) × (q2 : List ℕ) × (t : State) × (x ∷ q ≡ q1 ++ q2) × (run s q1 ≡ Some t) × IsStuckAt t q2
+    → ((u : State) → (q1 : List ℕ) × (q2 : List ℕ) × (t : State) × (q ≡ q1 ++ q2) × (run u q1 ≡ Some t) × IsStuckAt t q2) → (q1 : List ℕ) × (q2 : List ℕ)
+    × (t : State) × (x ∷ q ≡ q1 ++ q2) × (run s q1 ≡ Some t) × IsStuckAt t q2
 further_by x q s None e more = ([], x ∷ q, s, refl, refl, e)
 further_by x q s (Some u) e more =
     let rest = more u in

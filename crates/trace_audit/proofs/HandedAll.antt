@@ -123,7 +123,8 @@ module _ (s : Setting) (words : List ℕ) (bs : List LinkedBlock) (h : IsSetting
     mover_is : (b : LinkedBlock) (y : ℕ) → In b bs → has_node b y ≡ true
         → chooser s bs b ≡ mover_of s bs y
     mover_is b y i n
-        = sym (ap mover_at (up-in (root_state s) (λ c z above. state_after above (cell_at c (place c z))) r bs b y lk.order i n) ∙ other_back (chooser s bs b))
+        = sym (ap mover_at (up-in (root_state s) (λ c z above. state_after above (cell_at c (place c z))) r bs b y lk.order i n)
+        ∙ other_back (chooser s bs b))
 
     pub all_handed : AreSums s bs words sums s.knobs.playouts
     all_handed = record {

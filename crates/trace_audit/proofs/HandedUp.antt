@@ -454,7 +454,8 @@ module _ (s : Setting) (words : List ℕ) (bs : List LinkedBlock) (h : IsSetting
           let cell : c ≡ cell_at b (place b x) = is_parents y q f.0 in
           let always : gift y ≡ amount p
           = tally_same s bs words n (λ k. below k && has_stone s bs words b y k) below p p
-          (λ k l. yes (below k) (has_stone s bs words b y k) (λ t. ap (has_cell (stones_of (outcome_in s bs words k).full p)) cell ∙ stone_stays k l t)) refl in
+          (λ k l. yes (below k) (has_stone s bs words b y k) (λ t. ap (has_cell (stones_of (outcome_in s bs words k).full p)) cell
+          ∙ stone_stays k l t)) refl in
           let visits : (gift y).visits ≡ (amount p).visits = ap (λ (w : Count). w.visits) always in
           let wins : (gift y).wins ≡ (amount p).wins = ap (λ (w : Count). w.wins) always in
           let whole = block_amount in

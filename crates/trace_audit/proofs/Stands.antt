@@ -144,7 +144,8 @@ module _ (s : Setting) (bs : List LinkedBlock) (g : InOrder (root_at s) bs) wher
       let path : path_of s bs y ≡ y ∷ path_of s bs b.parent
       = up-in (r ∷ []) (λ c z rest. z ∷ rest) r bs b y g j n in
       ⊎_elim
-      (λ (l : b.start < e). ap test (stand_here e b y j n l) ∙ sym (ap (list_any test) path ∙ ap (λ (t : Bool). test y || t) (below b j l) ∙ or-false (test y)))
+      (λ (l : b.start < e). ap test (stand_here e b y j n l) ∙ sym (ap (list_any test) path ∙ ap (λ (t : Bool). test y || t) (below b j l)
+      ∙ or-false (test y)))
       (λ (l : e ≤ b.start). ap test (stand_up e b y j n (omega (arith, l))) ∙ h
       ∙ sym (ap (list_any test) path ∙ ap (λ (t : Bool). t || list_any test (path_of s bs b.parent)) (above b y j n (omega (arith, l)))))
       (cases_lt b.start e))

@@ -96,7 +96,8 @@ module _ (s : Setting) (words : List ℕ) (t : Table) (bs : List LinkedBlock) (h
         omega (arith, a.leaves x node, g.leaves room x c node (ap (λ (p : Position). is_empty_at p c) (frugal_board some.0 some.1 some.2 j m) ∙ e)))
 
     pub grown_of : Recorded s bs words → EachSite t (λ p. IsFirst words s.knobs.workers p.start)
-        → (next_in words ≤ end_of s → EachSite t (AreFrugal words sums (s.knobs.workers * s.knobs.expand))) → IsNextBounded s words t.others → Grown s bs words
+        → (next_in words ≤ end_of s → EachSite t (AreFrugal words sums (s.knobs.workers * s.knobs.expand))) → IsNextBounded s words t.others
+        → Grown s bs words
     grown_of rec first frugal room = record {
       first = λ b x y i n m e.
           let f = block_site s words t bs h long lk b x i n in
@@ -125,7 +126,8 @@ module _ (s : Setting) (words : List ℕ) (t : Table) (bs : List LinkedBlock) (h
           let at : x ≡ node_at (slice_index_or t.sites.items f.0 d).start f.3.0 = f.3.2
           ∙ sym (ap (λ (z : ℕ). node_at z f.3.0) start) in
           let got = frugal l f.0 d f.1 f.3.0 few c
-          (sym (ap (λ (p : Position). is_empty_at p c) (frugal_board f.0 d f.1 f.3.0 few)) ∙ sym (ap (λ (z : ℕ). is_empty_at (node_board s bs z) c) at) ∙ e) in
+          (sym (ap (λ (p : Position). is_empty_at p c) (frugal_board f.0 d f.1 f.3.0 few)) ∙ sym (ap (λ (z : ℕ). is_empty_at (node_board s bs z) c) at)
+          ∙ e) in
           omega (arith, got, ap (slice_index sums) at, a.leaves x n))
           (node-in (root_at s) bs x n);
       room = omega-room;

@@ -27,7 +27,11 @@ copied-more words room next i a c e l = record {
   long = length-set room i a ∙ c.long;
   each = λ j m o. dite (ℕ_discrete j i)
       (λ (q : j ≡ i). ap (slice_index (set room i a)) q ∙ get_or-set_same room i a 0 l ∙ sym (ap (slice_index words) q ∙ found words i a e))
-      (λ (ne : j ≢ i). get_or-set_other room i j a 0 ne ∙ c.each j (omega (arith, m, length-set room i a)) (⊎_elim (λ (t : j < i + 1). inl (omega (arith, t, ne))) (λ (t : next ≤ j). inr t) o));
+      (λ (ne : j ≢ i). get_or-set_other room i j a 0 ne ∙ c.each j (omega (
+        arith,
+        m,
+        length-set room i a,
+      )) (⊎_elim (λ (t : j < i + 1). inl (omega (arith, t, ne))) (λ (t : next ≤ j). inr t) o));
 }
 
 pub copied-all : (words room : List ℕ) (next i : ℕ) → Copied words next i room

@@ -26,7 +26,11 @@ above_both x k s lt more = let all : (x + 1) * 2 ^ 40 ≤ k * s = mul-le (x + 1)
 root_below : (c l r v k s : ℕ) → c * c * l < k * k → 2 ^ 40 < s * s * v → r * r * v ≤ l → c * r * 2 ^ 20 < k * s
 root_below c l r v k s factor root under =
     let weighed : c * c * (r * r * v) ≤ c * c * l = mul-le (c * c) (r * r * v) (c * c) l (omega arith) under in
-    let both : (c * c * (r * r * v)) * 2 ^ 40 < (k * k) * (s * s * v) = above_both (c * c * (r * r * v)) (k * k) (s * s * v) (omega (arith, weighed, factor)) root in
+    let both : (c * c * (r * r * v)) * 2 ^ 40 < (k * k) * (s * s * v) = above_both (c * c * (r * r * v)) (k * k) (s * s * v) (omega (
+      arith,
+      weighed,
+      factor,
+    )) root in
     lesser v (c * r * 2 ^ 20) (k * s) (omega (arith, both))
 
 -- the root of a quotient by v

@@ -55,6 +55,8 @@ map_length p c xs = grind (arith, common_steps)
 pub choice_of-lt : (p c : ℕ) (x : Child) (xs : List Child) → choice_of p c (x ∷ xs) < length (x ∷ xs)
 unfolding choice_of
 choice_of-lt p c x xs =
-    let last : first_of_largest (map (score_in p c) (x ∷ xs)) < length xs + 1 = rw (← map_length p c xs) (first_of_largest-lt (score_in p c x) (map (score_in p c) xs)) in
+    let last : first_of_largest (map (score_in p c) (x ∷ xs)) < length xs
+    + 1 = rw (← map_length p c xs) (first_of_largest-lt (score_in p c x) (map (score_in p c) xs)) in
     let within : first_of_largest (map (score_in p c) (x ∷ xs)) < suc (length xs) = omega (arith, last) in
-    one_of (list_any is_unvisited (x ∷ xs)) (position_or_len is_unvisited (x ∷ xs)) (first_of_largest (map (score_in p c) (x ∷ xs))) (suc (length xs)) (position-lt (x ∷ xs)) within
+    one_of (list_any is_unvisited (x ∷ xs)) (position_or_len is_unvisited (x
+    ∷ xs)) (first_of_largest (map (score_in p c) (x ∷ xs))) (suc (length xs)) (position-lt (x ∷ xs)) within

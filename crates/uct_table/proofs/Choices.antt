@@ -41,7 +41,8 @@ two_places false true j k a b m e = e
 two_places false false j k a b m e = e
 
 pub chosen_later : (p c place best most : ℕ) (x : Child) (xs : List Child) → 0 < x.visits
-    → cond (nat_lt most (score_in p c x)) (chosen_from p c (place + 1) place (score_in p c x) xs) (chosen_from p c (place + 1) best most xs) ≡ chosen_from p c place best most (x ∷ xs)
+    → cond (nat_lt most (score_in p c x)) (chosen_from p c (place + 1) place (score_in p c x) xs) (chosen_from p c (place + 1) best most xs)
+    ≡ chosen_from p c place best most (x ∷ xs)
 chosen_later p c place best most x xs some =
     let none : (x.visits == 0) ≡ false = grind arith in
     rw none (two_places (list_any is_unvisited xs) (nat_lt most (score_in p c x)) place (position_or_len is_unvisited xs) _ _ _

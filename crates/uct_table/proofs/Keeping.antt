@@ -1,5 +1,6 @@
 -- Going through a list of children keeps the one of Choice.
-use Rattle.std.proofs.Common.{◌≡◌, ℕ, ◌+◌, ◌<◌, ◌≤◌, ◌==◌, Bool, true, false, cond, not, ◌&&◌, ◌||◌, nat_lt, List, [], ◌∷◌, max, map, refl, ap, ◌∙◌, arith, inl, inr}
+use Rattle.std.proofs.Common.{◌≡◌, ℕ, ◌+◌, ◌<◌, ◌≤◌, ◌==◌, Bool, true, false, cond, not, ◌&&◌, ◌||◌}
+use Rattle.std.proofs.Common.{nat_lt, List, [], ◌∷◌, max, map, refl, ap, ◌∙◌, arith, inl, inr}
 use Rattle.std.specs.List.{position_or_len, list_any}
 use Rattle.std.proofs.lemmas.Bool.{cases_lt}
 use Rattle.uct_table.specs.Choice.{Child, is_unvisited, score_in, largest, first_of_largest, choice_of, is_better, kept_from, kept_of}
@@ -43,12 +44,14 @@ kept_at-more false false i j x y true first ns = grind arith
 kept_at-more false false i j x y false first ns = two_scores i j x y ns
 
 kept_from_is : (p c i : ℕ) (x : Child) (j : ℕ) (ys : List Child)
-    → kept_from p c i x j ys ≡ kept_at (is_unvisited x) i j (score_in p c x) (list_any is_unvisited ys) (position_or_len is_unvisited ys) (map (score_in p c) ys)
+    → kept_from p c i x j ys ≡ kept_at (is_unvisited x) i j (score_in p c x) (list_any is_unvisited ys) (position_or_len is_unvisited ys)
+    (map (score_in p c) ys)
 unfolding is_better
 kept_from_is p c i x j [] = kept_at-none (is_unvisited x) i j (score_in p c x)
 kept_from_is p c i x j (y ∷ ys) =
     rw (kept_from_is p c j y (j + 1) ys, kept_from_is p c i x (j + 1) ys)
-    (kept_at-more (is_unvisited x) (is_unvisited y) i j (score_in p c x) (score_in p c y) (list_any is_unvisited ys) (position_or_len is_unvisited ys) (map (score_in p c) ys))
+    (kept_at-more (is_unvisited x) (is_unvisited y) i j (score_in p c x) (score_in p c y) (list_any is_unvisited ys) (position_or_len is_unvisited ys)
+    (map (score_in p c) ys))
 
 kept_at-first : (none_x : Bool) (x : ℕ) (any : Bool) (first : ℕ) (ns : List ℕ)
     → kept_at none_x 0 1 x any first ns ≡ cond (none_x || any) (cond (not none_x) (1 + first) 0) (first_of_largest (x ∷ ns))
@@ -62,4 +65,5 @@ kept_at-first false x false first ns = elim (cases_lt x (largest ns)) [
 pub kept_of_is : (p c : ℕ) (xs : List Child) → kept_of p c xs ≡ choice_of p c xs
 unfolding choice_of
 kept_of_is p c [] = refl
-kept_of_is p c (x ∷ xs) = kept_from_is p c 0 x 1 xs ∙ kept_at-first (is_unvisited x) (score_in p c x) (list_any is_unvisited xs) (position_or_len is_unvisited xs) (map (score_in p c) xs)
+kept_of_is p c (x ∷ xs) = kept_from_is p c 0 x 1 xs ∙ kept_at-first (is_unvisited x) (score_in p c x) (list_any is_unvisited xs)
+    (position_or_len is_unvisited xs) (map (score_in p c) xs)

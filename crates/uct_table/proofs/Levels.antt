@@ -17,5 +17,10 @@ level_small b p low high few =
     let log = log_small b p low few in
     let some : 1 ≤ 2 ^ b = one-le-pow b 2 (omega arith) in
     let same : 1 * 2 ^ b % 4294967296 ≡ 2 ^ b = omega (arith, low, few) in
-    let part : 256 * (p - 1 * 2 ^ b % 4294967296) / 2 ^ b < 257 = div_below (256 * (p - 1 * 2 ^ b % 4294967296)) (2 ^ b) 257 some (omega (arith, same, high, some)) in
+    let part : 256 * (p - 1 * 2 ^ b % 4294967296) / 2 ^ b < 257 = div_below (256 * (p - 1 * 2 ^ b % 4294967296)) (2 ^ b) 257 some (omega (
+      arith,
+      same,
+      high,
+      some,
+    )) in
     omega (arith, log, part)

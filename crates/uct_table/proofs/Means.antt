@@ -21,6 +21,7 @@ mean_is_low floor v w zero b low = absurd (omega (arith, low))
 mean_is_low floor v w (suc a) b low =
     let own = div-mul-le_self (65536 * w) v in
     let seen = div-mul-le_self (65536 * b) (suc a) in
-    let lt = div_below (v * (65536 * w / v) + 64 * (65536 * b / suc a)) (v + 64) (floor + 1) (omega arith) (sum_low (floor + 1) v (65536 * w / v) w (65536 * b / suc a) (suc a) b own seen low) in
+    let lt = div_below (v * (65536 * w / v) + 64 * (65536 * b / suc a)) (v + 64) (floor
+    + 1) (omega arith) (sum_low (floor + 1) v (65536 * w / v) w (65536 * b / suc a) (suc a) b own seen low) in
     let some : (suc a == 0) ≡ false = grind arith in
     rw some (omega (arith, lt))

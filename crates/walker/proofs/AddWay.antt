@@ -41,7 +41,8 @@ module _ (s : Setting) (o : Ending) where
       let above : Gathered = adds_up s o bs b.parent in
       let mover : above.state.player ≡ other_of p = player-above bs b x p g i h t in
       ap (λ (a : Gathered). a.adds) (up-in (root_adds s o) (node_adds o) (root_at s) bs b x g i h)
-      ∙ ap (λ (q : Colour). record { word = x + 2; won = is_same o.winner q } ∷ (seen_adds (stones_of o.full q) (is_same o.winner q) (b.start + 4) b.cells ++ above.adds)) mover
+      ∙ ap (λ (q : Colour). record { word = x + 2; won = is_same o.winner q }
+      ∷ (seen_adds (stones_of o.full q) (is_same o.winner q) (b.start + 4) b.cells ++ above.adds)) mover
     where
       player-above : (bs : List LinkedBlock) (b : LinkedBlock) (x : ℕ) (p : Colour)
           → InOrder (root_at s) bs → In b bs → has_node b x ≡ true → p ≡ (node_state s bs x).player

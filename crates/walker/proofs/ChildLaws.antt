@@ -57,7 +57,8 @@ pub children-same : (v u : SeatView) (b : LinkedBlock) (n : ℕ) → n ≤ lengt
 children-same v u b n l hp hq =
     let long : length (take n b.cells) ≡ n = length-take-le n b.cells l in
     ap (map child_of)
-    (pairs-same (tally_loaded u) (seen_loaded u) (tally_loaded v) (seen_loaded v) (b.start + 4) (take n b.cells) (λ k m. hp k (omega (arith, m, long))) (λ k m. hq k (omega (arith, m, long))))
+    (pairs-same (tally_loaded u) (seen_loaded u) (tally_loaded v) (seen_loaded v) (b.start
+    + 4) (take n b.cells) (λ k m. hp k (omega (arith, m, long))) (λ k m. hq k (omega (arith, m, long))))
 
 -- the child of a place
 pairs-at : (p q : ℕ → Count) (y : ℕ) (cs : List ℕ) (i : ℕ) → i < length cs

@@ -105,7 +105,13 @@ module _ (w : Walker) (v : SeatView) (b : Belongs w v) (x : ℕ) where
       omega (arith, next, a.at))
       (λ (l : w.start + 4 ≤ w.at + 1). ⊎_elim
       (λ (e : length (cells_in w) ≡ 0). omega (arith, ap steps_left (headed-leaf w l e), leaf-left w, a.at))
-      (λ (ne : length (cells_in w) ≢ 0). let m : 0 < length (cells_in w) = omega arith in omega (arith, ap steps_left (headed-scan w l m), few-below, a.at, l))
+      (λ (ne : length (cells_in w) ≢ 0). let m : 0 < length (cells_in w) = omega arith in omega (
+        arith,
+        ap steps_left (headed-scan w l m),
+        few-below,
+        a.at,
+        l,
+      ))
       (cases_eq (length (cells_in w)) 0))
       (cases_lt (w.at + 1) (w.start + 4))
 

@@ -77,7 +77,12 @@ module _ (w : Walker) (v : SeatView) (b : Belongs w v) where
       let board : w.board ≡ node_board v.shape v.known w.node
       = ap (λ (p : NodeState). p.board) m.down.is in
       (λ i. record { start = w.start; parent = w.node; empties = set_of (empties_of (board i)); cells = empties_of (board i) })
-      ∙ ap (λ (t : Bool). record { start = w.start; parent = w.node; empties = set_of (empties_of (node_board v.shape v.known w.node)); cells = cond t (allowed_cells v.shape) (empties_of (node_board v.shape v.known w.node)) })
+      ∙ ap (λ (t : Bool). record {
+        start = w.start;
+        parent = w.node;
+        empties = set_of (empties_of (node_board v.shape v.known w.node));
+        cells = cond t (allowed_cells v.shape) (empties_of (node_board v.shape v.known w.node));
+      })
       (sym (ne_eqb w.node (root_at v.shape) m.below))
 
   own-long : length (block_words (own_block w)) ≡ size_below (state_in w)

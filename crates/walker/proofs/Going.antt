@@ -45,7 +45,8 @@ pub record Untouched (c : LinkedBlock) (at : ℕ) : Type 0 where
 pub state-known : (v : SeatView) (z b x : ℕ) → InOrder (root_at v.shape) (known_after v z b)
     → is_known v x ≡ true → node_state v.shape (known_after v z b) x ≡ node_state v.shape v.known x
 state-known v z b x g n = ⊎_elim
-    (λ (q : Grows v z b). ap (λ (ks : List LinkedBlock). node_state v.shape ks x) q.is ∙ spot-same v.shape (told_below v z b) v.known x (subst (InOrder (root_at v.shape)) q.is g).0 n)
+    (λ (q : Grows v z b). ap (λ (ks : List LinkedBlock). node_state v.shape ks x) q.is
+    ∙ spot-same v.shape (told_below v z b) v.known x (subst (InOrder (root_at v.shape)) q.is g).0 n)
     (λ (e : known_after v z b ≡ v.known). ap (λ (ks : List LinkedBlock). node_state v.shape ks x) e)
     (known_cases v z b)
 

@@ -19,7 +19,8 @@ none-in first won cells left e = ap (half_adds first won cells) e
 -- the next add of a half is at the place of the least cell that is left
 pub next-in : (first : ℕ) (won : Bool) (cells left : ℕ) → 0 < left → left < 2 ^ 64
     → half_adds first won cells left
-    ≡ record { word = first + 4 * count_ones (bit_and cells (1 * 2 ^ trailing_zeros w64 left % 2 ^ 64 - 1)); won = won } ∷ half_adds first won cells (bit_xor left (1 * 2 ^ trailing_zeros w64 left % 2 ^ 64))
+    ≡ record { word = first + 4 * count_ones (bit_and cells (1 * 2 ^ trailing_zeros w64 left % 2 ^ 64 - 1)); won = won }
+    ∷ half_adds first won cells (bit_xor left (1 * 2 ^ trailing_zeros w64 left % 2 ^ 64))
 next-in first won cells left some small =
     let t = least_in left some small in
     let c : ℕ = trailing_zeros w64 left in

@@ -123,7 +123,10 @@ module _ (d : ScanData) (c : Child) (at : ℕ) (p : Phase) where
       }) h.0 one refl (λ t. absurd (cc))
       (λ t. (z, refl))))
       (λ (l : score_in d.parent d.weight c ≤ d.most). subst goal (sym (kept-first d c e z l h.0))
-      (first-child (record d { visits = c.visits; at = at; phase = p; place = d.place + 1 }) h.1 one refl (λ t. absurd (cc)) (λ t. (z, omega (arith, l, h.2)))))
+      (first-child (record d { visits = c.visits; at = at; phase = p; place = d.place + 1 }) h.1 one refl (λ t. absurd (cc)) (λ t. (
+        z,
+        omega (arith, l, h.2),
+      ))))
       (cases_lt d.most (score_in d.parent d.weight c)))
       (eq-zero-or-pos c.visits)
 
@@ -202,7 +205,8 @@ kept-few d c n a b = by d.fresh (c.visits == 0) (nat_lt d.most (score_in d.paren
   where
     by : (t u w x : Bool)
         → (cond t d (cond u (record d { best = d.place; visits = 0; fresh = true })
-        (cond w (record d { best = d.place; visits = c.visits; most = score_in d.parent d.weight c }) (cond x (record d { visits = c.visits }) d)))).visits ≤ n
+        (cond w (record d { best = d.place; visits = c.visits; most = score_in d.parent d.weight c }) (cond x (record d { visits = c.visits }) d)))).visits
+        ≤ n
     by true u w x = a
     by false true w x = omega arith
     by false false true x = b

@@ -46,7 +46,8 @@ kept-elsewhere d c at p = by d.fresh (c.visits == 0) (nat_lt d.most (score_in d.
     by : (t u w x : Bool) → cond t e (cond u (record e { best = d.place; visits = 0; fresh = true })
         (cond w (record e { best = d.place; visits = c.visits; most = score_in d.parent d.weight c }) (cond x (record e { visits = c.visits }) e)))
         ≡ record (cond t d (cond u (record d { best = d.place; visits = 0; fresh = true })
-        (cond w (record d { best = d.place; visits = c.visits; most = score_in d.parent d.weight c }) (cond x (record d { visits = c.visits }) d)))) { at = at; phase = p }
+        (cond w (record d { best = d.place; visits = c.visits; most = score_in d.parent d.weight c }) (cond x (record d { visits = c.visits }) d))))
+        { at = at; phase = p }
     by true u w x = refl
     by false true w x = refl
     by false false true x = refl

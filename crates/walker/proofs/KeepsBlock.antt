@@ -92,7 +92,11 @@ module _ (w : Walker) (v : SeatView) (b : Belongs w v) (x : ℕ) where
       (iu : IsView (after v (Claim (size_below (state_in w))) x)) where
     claim-inside : x + size_below (state_in w) ≤ end_of v.shape
         → claimed_at v
-        (size_below (state_in w)) x ≡ record v { held = Some (record { start = x; size = size_below (state_in w); written = [] }); claimed = v.claimed + size_below (state_in w) }
+        (size_below (state_in w)) x ≡ record v {
+          held = Some (record { start = x; size = size_below (state_in w); written = [] });
+          claimed = v.claimed
+              + size_below (state_in w);
+        }
         → Belongs (record w { stage = Writing; start = x; at = x })
         (after v (Claim (size_below (state_in w))) x)
     unfolding with_word
@@ -116,7 +120,11 @@ module _ (w : Walker) (v : SeatView) (b : Belongs w v) (x : ℕ) where
             above = node-before v w.node x a.may.down.known a.may.below may.step.behind;
             at = (omega arith, omega arith);
             held = ap (λ (z : SeatView). z.held) e
-                ∙ sym (ap (λ (n : ℕ). Some (record { start = x; size = size_below (state_in w); written = take n (block_words (own_block (record w { start = x }))) })) none);
+                ∙ sym (ap (λ (n : ℕ). Some (record {
+                  start = x;
+                  size = size_below (state_in w);
+                  written = take n (block_words (own_block (record w { start = x })));
+                })) none);
           };
         }
 
@@ -145,7 +153,11 @@ module _ (w : Walker) (v : SeatView) (b : Belongs w v) (x : ℕ) where
         let n : ℕ = size_below (state_in w) in
         let end : end_of v.shape ≡ end_of w.shape = ap end_of b.shape in
         ⊎_elim
-        (λ (q : (x + n ≤ end_of v.shape) × (claimed_at v n x ≡ record v { held = Some (record { start = x; size = n; written = [] }); claimed = v.claimed + n })).
+        (λ (q : (x + n ≤ end_of v.shape) × (claimed_at v n x ≡ record v {
+          held = Some (record { start = x; size = n; written = [] });
+          claimed = v.claimed
+              + n;
+        })).
         let l = q.0 in
         subst (λ (z : Walker). Belongs z u) (sym (claimed-inside w x (omega (arith, l, end))))
         (claim-inside q.0 q.1))

@@ -106,7 +106,8 @@ module _ (w : Walker) (v : SeatView) (b : Belongs w v) (x : ℕ) (stage : w.stag
       let is : scanned w x ≡ chosen (record w { scan = d }) = scanned-last w x last
       ∙ ap (λ (z : ScanData). chosen (record w { scan = z })) next in
       subst (λ (z : Walker). Belongs z u) (sym is)
-      (chosen-belongs (record w { scan = d }) u b.shape iu b.width b.full (looked-last w u a.block d b.shape iu b.width k (below-after w v b x a iu d) l a.held)))
+      (chosen-belongs (record w { scan = d }) u b.shape iu b.width b.full
+      (looked-last w u a.block d b.shape iu b.width k (below-after w v b x a iu d) l a.held)))
       (cases_lt d.place d.count)
 
   by-phase : (p : Phase) → w.scan.phase ≡ p → Belongs (scanned w x) (after v (Look w.scan.at) x)

@@ -57,22 +57,26 @@ module _ (w : Walker) (v : SeatView) (b : Belongs w v) (x : ℕ) (a : AtChild w 
   loads-tally : (i : ℕ) → i < w.scan.place + 1
       → IsLoaded (after v (Look w.scan.at) x) (child a.block i + 2)
   loads-tally i l = ⊎_elim
-      (λ (m : i < w.scan.place). loaded-goes v (after v (Look w.scan.at) x) w.scan.at (goes w v b x a iu) (child a.block i + 2) (tally-kept i (omega arith)) (a.scan.tallies i m))
+      (λ (m : i < w.scan.place). loaded-goes v (after v (Look w.scan.at) x) w.scan.at (goes w v b x a iu) (child a.block i
+      + 2) (tally-kept i (omega arith)) (a.scan.tallies i m))
       (λ (e : i ≡ w.scan.place). subst (λ (k : ℕ). IsLoaded (after v (Look w.scan.at) x) (child a.block k + 2)) (sym e)
-      (loaded-goes v (after v (Look w.scan.at) x) w.scan.at (goes w v b x a iu) (child a.block w.scan.place + 2) (tally-kept w.scan.place (omega arith)) (w.scan.tally, stands.1)))
+      (loaded-goes v (after v (Look w.scan.at) x) w.scan.at (goes w v b x a iu) (child a.block w.scan.place
+      + 2) (tally-kept w.scan.place (omega arith)) (w.scan.tally, stands.1)))
       (one-less i w.scan.place l)
 
   loads-seen : (i : ℕ) → i < w.scan.place + 1
       → IsLoaded (after v (Look w.scan.at) x) (child a.block i + 3)
   loads-seen i l = ⊎_elim
-      (λ (m : i < w.scan.place). loaded-goes v (after v (Look w.scan.at) x) w.scan.at (goes w v b x a iu) (child a.block i + 3) (λ e. let s = stands.0 in omega (arith, s, e, m)) (a.scan.seen i m))
+      (λ (m : i < w.scan.place). loaded-goes v (after v (Look w.scan.at) x) w.scan.at (goes w v b x a iu) (child a.block i
+      + 3) (λ e. let s = stands.0 in omega (arith, s, e, m)) (a.scan.seen i m))
       (λ (e : i ≡ w.scan.place). subst (λ (k : ℕ). IsLoaded (after v (Look w.scan.at) x) (child a.block k + 3)) (sym e)
       (x, look-seen v w.scan.at x (child a.block w.scan.place) (kid w v b x a w.scan.place (here w v b x a)) stands.0))
       (one-less i w.scan.place l)
 
   -- the counts of the child in hand
   child-is : child_of
-      (tally_loaded (after v (Look w.scan.at) x) (child a.block w.scan.place), seen_loaded (after v (Look w.scan.at) x) (child a.block w.scan.place)) ≡ child_in w.scan x
+      (tally_loaded (after v (Look w.scan.at) x) (child a.block w.scan.place), seen_loaded (after v (Look w.scan.at) x) (child a.block w.scan.place))
+      ≡ child_in w.scan x
   child-is =
       let y : ℕ = child a.block w.scan.place in
       let u : SeatView = after v (Look w.scan.at) x in
@@ -98,7 +102,8 @@ module _ (w : Walker) (v : SeatView) (b : Belongs w v) (x : ℕ) (a : AtChild w 
       (w.scan.place + 1) ≡ children_loaded v a.block w.scan.place ++ child_in w.scan x ∷ []
       = children-push u a.block w.scan.place (here w v b x a) ∙ (λ i. same i ++ child-is i ∷ []) in
       subst (KeepsBest then) (sym more)
-      (keeps-more w.scan (child_in w.scan x) (w.scan.at + 1) Move (children_loaded v a.block w.scan.place) (children-long v a.block w.scan.place few) a.scan.keeps)
+      (keeps-more w.scan (child_in w.scan x) (w.scan.at + 1) Move (children_loaded v a.block w.scan.place) (children-long v a.block w.scan.place few)
+      a.scan.keeps)
 
   pub seen-looked : Looked w (after v (Look w.scan.at) x) a.block then
   unfolding with_word looked

@@ -74,7 +74,8 @@ module _ (w : Walker) (v : SeatView) (b : Belongs w v) (x : ℕ) where
     head-below e r =
         let some = some-allowed v.shape b.view.setting in
         let all : cells_in w ≡ allowed_cells v.shape = head-cells
-        ∙ ap (λ (t : Bool). cond t (allowed_cells v.shape) (empties_of (node_board v.shape (after v (Look w.at) x).known w.node))) (eq-eqb w.node (root_at v.shape) r) in
+        ∙ ap (λ (t : Bool). cond t (allowed_cells v.shape) (empties_of (node_board v.shape (after v (Look w.at) x).known w.node)))
+        (eq-eqb w.node (root_at v.shape) r) in
         omega (arith, some, ap length all, e)
 
     head-leaf : length (cells_in w) ≡ 0 → AtTally (at_leaf w) (after v (Look w.at) x)
@@ -84,7 +85,8 @@ module _ (w : Walker) (v : SeatView) (b : Belongs w v) (x : ℕ) where
         let empties : cells_in w ≡ empties_of
         (node_board v.shape (after v (Look w.at) x).known w.node)
         = head-cells
-        ∙ ap (λ (t : Bool). cond t (allowed_cells v.shape) (empties_of (node_board v.shape (after v (Look w.at) x).known w.node))) (ne_eqb w.node (root_at v.shape) ne) in
+        ∙ ap (λ (t : Bool). cond t (allowed_cells v.shape) (empties_of (node_board v.shape (after v (Look w.at) x).known w.node)))
+        (ne_eqb w.node (root_at v.shape) ne) in
         leaf-stands w (after v (Look w.at) x) b.shape horder iu.known head-down a.held ne
         (inr (sym (ap length empties) ∙ e)) (inr (inl (sym (ap length empties) ∙ e)))
 
@@ -116,7 +118,13 @@ module _ (w : Walker) (v : SeatView) (b : Belongs w v) (x : ℕ) where
         let goal : Walker → Type 0 = λ z. Belongs z u in
         ⊎_elim
         (λ (l : w.at + 1 < w.start + 4). subst goal (sym (headed-next w l))
-        (record { shape = b.shape; view = iu; width = b.width; full = b.full; stands = subst (λ (t : Stage). Stands t (record w { at = w.at + 1 }) u) (sym stage) (head-next l) }))
+        (record {
+          shape = b.shape;
+          view = iu;
+          width = b.width;
+          full = b.full;
+          stands = subst (λ (t : Stage). Stands t (record w { at = w.at + 1 }) u) (sym stage) (head-next l);
+        }))
         (λ (l : w.start + 4 ≤ w.at + 1). ⊎_elim
         (λ (e : length (cells_in w) ≡ 0). subst goal (sym (headed-leaf w l e)) (leaf-belongs w u b.shape iu b.width b.full (head-leaf e)))
         (λ (ne : length (cells_in w) ≢ 0). let m : 0 < length (cells_in w) = omega arith in subst goal (sym (headed-scan w l m))

@@ -119,7 +119,8 @@ module _ (w : Walker) (u : SeatView) (c : LinkedBlock) (d : ScanData) (shape : u
       = up-in (root_state u.shape) (λ e y s. state_after s (cell_at e (place e y)))
       (root_at u.shape) u.known c (child c d.best) corder below.known
       (child-has c d.best best-in) in
-      (λ i. state_after ((k.down.is ∙ ap (node_state u.shape u.known) (sym below.parent)) i) ((sym cell ∙ ap (λ (n : ℕ). get_or c.cells n 0) (sym (is_child c.start d.best))) i))
+      (λ i. state_after ((k.down.is ∙ ap (node_state u.shape u.known) (sym below.parent)) i) ((sym cell
+      ∙ ap (λ (n : ℕ). get_or c.cells n 0) (sym (is_child c.start d.best))) i))
       ∙ sym up
 
   pub small : w.board.size ≤ 11
@@ -165,7 +166,11 @@ module _ (w : Walker) (u : SeatView) (c : LinkedBlock) (d : ScanData) (shape : u
   pub looked-last : u.held ≡ None → AtLink (chosen (record w { scan = d })) u
   unfolding chosen
   looked-last held = record {
-    down = subst (λ (y : ℕ). IsDown w.number y d.visits (state_after (state_in w) (get_or (cells_in w) d.best 0)) (record { parent = w.node; block = w.start; cells = set_in w } ∷ w.way) u) child-is-at best-down;
+    down = subst (λ (y : ℕ). IsDown w.number y d.visits (state_after (state_in w) (get_or (cells_in w) d.best 0)) (record {
+      parent = w.node;
+      block = w.start;
+      cells = set_in w;
+    } ∷ w.way) u) child-is-at best-down;
     held = held;
     at = refl;
   }

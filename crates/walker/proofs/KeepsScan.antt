@@ -53,7 +53,12 @@ fewer-empties p player c small e =
     (λ k t. set_empties p k ∙ (placed_empty p player c k (sym (set_empties q k) ∙ t)).0)
     (set_empties p c ∙ e)
     (set_empties q c ∙ (placed_leaves p player c c ∙ same_out (is_empty_at p c) c)) (omega arith) in
-    omega (arith, less, count_empties (set_of (empties_of q)) q (omega (arith, size, small)) (set_empties q), count_empties (set_of (empties_of p)) p small (set_empties p))
+    omega (
+      arith,
+      less,
+      count_empties (set_of (empties_of q)) q (omega (arith, size, small)) (set_empties q),
+      count_empties (set_of (empties_of p)) p small (set_empties p),
+    )
 
 -- what a scan keeps does not hang on where it looks
 pub keeps-look : (d : ScanData) (xs : List Child) (at t : ℕ) (p : Phase) → KeepsBest d xs

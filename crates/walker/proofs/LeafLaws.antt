@@ -115,7 +115,8 @@ module _ (w : Walker) (v : SeatView) (shape : v.shape ≡ w.shape)
         chosen = λ c y i h on. way-chosen v g t c y i h w.way w.node d.on_way on;
         ends = ends;
       } in
-      let left : (adds_up v.shape (outcome_of w.shape w.number (state_in w)) v.known w.node).adds ≡ walk_adds v.shape v.known w.number w.node = adds-are ending in
+      let left : (adds_up v.shape (outcome_of w.shape w.number (state_in w)) v.known w.node).adds
+      ≡ walk_adds v.shape v.known w.number w.node = adds-are ending in
       record {
         climbs = record {
           up = record { hand = record { ended = d.ended; ticket = d.ticket }; held = held; leaf = d.known; ending = ending };
@@ -123,7 +124,8 @@ module _ (w : Walker) (v : SeatView) (shape : v.shape ≡ w.shape)
           way = d.on_way;
         };
         at = refl;
-        left = subst (λ (o : Option Flight). Leaves (at_leaf w) v o (adds_up v.shape (outcome_of w.shape w.number (state_in w)) v.known w.node).adds) (sym d.adds) (may, refl, left, bare);
+        left = subst (λ (o : Option Flight). Leaves (at_leaf w) v o (adds_up v.shape (outcome_of w.shape w.number (state_in w)) v.known w.node).adds)
+            (sym d.adds) (may, refl, left, bare);
       }
 
 -- and the view belongs to the walker there

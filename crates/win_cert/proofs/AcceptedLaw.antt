@@ -52,7 +52,8 @@ edges_win base kind c m g =
     subst (λ v. Wins base.player base.board v) (movers kind base.player)
     (sure_wins (members c 121) kind base.player base.board G s c refl (λ k h. scope_empty base.board base.player 0 k (g.empty k h))
     (λ t i l. subst (λ z. Joined z base.player t) (scope_size base.board base.player 0) (links_join e t (λ k h. i k (no_scope_stones base k h)) l))
-    (sure_wider (members c 121) (members c 121) kind G (stones_of e.board base.player) s c c (linked_kept e (edge_element e false) (edge_element e true)) (omega arith) (no_scope_stones base) (same c) g.holds))
+    (sure_wider (members c 121) (members c 121) kind G (stones_of e.board base.player) s c c (linked_kept e (edge_element e false) (edge_element e true))
+    (omega arith) (no_scope_stones base) (same c) g.holds))
 
 pub some_named : (s : Statement) (o : Option ScopedEntry) → may_take s o ≡ true
     → (a : ScopedEntry) × (cons_option o [] ≡ a ∷ [])

@@ -127,8 +127,10 @@ bad_head lines m some e = elim (none_or 1 m (line_in version_in lines) (λ v. ta
               | inr p ↦
                   let p_line = line_means player_in n.0.1 p.0 p.1 in
                   let player = player_means p_line.words p.0.0 p_line.says in
-                  let p_is : lines ≡ (codes "hexcert" ∷ decimal v.0.0 ∷ []) ∷ (codes "size" ∷ decimal n.0.0 ∷ []) ∷ (codes "player" ∷ colour_word p.0.0 ∷ []) ∷ p.0.1 =
-                  n_is ∙ ap (λ ls. (codes "hexcert" ∷ decimal v.0.0 ∷ []) ∷ (codes "size" ∷ decimal n.0.0 ∷ []) ∷ ls) (p_line.is ∙ ap (λ w. w ∷ p.0.1) player) in
+                  let p_is : lines ≡ (codes "hexcert" ∷ decimal v.0.0 ∷ []) ∷ (codes "size" ∷ decimal n.0.0 ∷ []) ∷ (codes "player" ∷ colour_word p.0.0 ∷ [])
+                  ∷ p.0.1 =
+                  n_is ∙ ap (λ ls. (codes "hexcert" ∷ decimal v.0.0 ∷ []) ∷ (codes "size" ∷ decimal n.0.0 ∷ []) ∷ ls) (p_line.is
+                  ∙ ap (λ w. w ∷ p.0.1) player) in
                   elim (none_or 4 m (line_in (stones_in (codes "black") n.0.0 0) p.0.1) (λ b. tail5 v.0.0 n.0.0 p.0.0 b.0 b.1) p.2) [
                     | inl same ↦ record {
                       head = start_of v.0.0 n.0.0 0 p.0.0;
@@ -149,7 +151,8 @@ bad_head lines m some e = elim (none_or 1 m (line_in version_in lines) (λ v. ta
                           head = start_of v.0.0 n.0.0 b.0.0 p.0.0;
                           j = 4;
                           rest = b.0.1;
-                          is = p_is ∙ ap (λ ls. (codes "hexcert" ∷ decimal v.0.0 ∷ []) ∷ (codes "size" ∷ decimal n.0.0 ∷ []) ∷ (codes "player" ∷ colour_word p.0.0 ∷ []) ∷ ls)
+                          is = p_is ∙ ap (λ ls. (codes "hexcert" ∷ decimal v.0.0 ∷ []) ∷ (codes "size" ∷ decimal n.0.0 ∷ [])
+                              ∷ (codes "player" ∷ colour_word p.0.0 ∷ []) ∷ ls)
                               (b_line.is ∙ ap (λ w. w ∷ b.0.1) black.is);
                           more = rest_some (stones_in (codes "black") n.0.0 0) p.0.1 b.0 b.1;
                           good = start_good v.0.0 n.0.0 b.0.0 p.0.0 v_good size.low size.high black.on_board;

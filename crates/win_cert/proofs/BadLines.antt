@@ -264,5 +264,6 @@ bad_after v n k (suc j) m (line ∷ lines, claim) rest size good few some long e
     (step_back v n (Derivation line) size (good 0 line (omega arith)))) ∙ e in
     let after = bad_after v n (suc k) j m (lines, claim) rest size
     (All-tail (IsLineOf v n) line lines good) few some (omega (arith, long))
-    (err_of_lines (line ∷ []) (steps_in v n (suc k) later) (NotCert m) (no_limit (eqb k (most_lines v)) (with_lines (line ∷ []) (steps_in v n (suc k) later)) m shown)) in
+    (err_of_lines (line ∷ []) (steps_in v n (suc k) later) (NotCert m) (no_limit (eqb k (most_lines v)) (with_lines (line
+    ∷ []) (steps_in v n (suc k) later)) m shown)) in
     omega (arith, after)

@@ -96,7 +96,8 @@ good_cases e x y (a ∷ cases) m g f =
       second = second_missed e x y (a ∷ cases) g;
       holds = concluded e (suc (members c 121)) Full x y c m free
           (sure_by_cases (members a.carrier 121) (StonesLink e x y) s a.carrier c (linked_kept e x y) inside.0 g.0.holds
-          (λ k h. let w = left_case (λ v. IsSubset v.carrier c × IsCase e x y v) k (a ∷ cases) (not_common (a ∷ cases) k f (empty_small e c m free k h)) both in
+          (λ k h. let w = left_case (λ v. IsSubset v.carrier c × IsCase e x y v) k (a
+          ∷ cases) (not_common (a ∷ cases) k f (empty_small e c m free k h)) both in
           (w.0.carrier, w.1.0, w.2, w.1.1.holds)));
     }
 
@@ -141,7 +142,8 @@ edge_case : (c : Context) (s : Statement) (a : ScopedEntry) → kind_taken s ≡
     → scope_taken c s ≡ c.scope → IsLineTaken c s a → is_edge_entry c.base a ≡ true
     → IsGoodOfEdges (elements_at c) Semi a.carrier
 edge_case c s a p q g h = edges_good (elements_at c) Semi a
-    (subst (λ v. (a.x == edge_element (elements_in c.base v) false && a.y == edge_element (elements_in c.base v) true) ≡ true) (g.scope_is ∙ q) h) (taken_good c s Semi a p q g)
+    (subst (λ v. (a.x == edge_element (elements_in c.base v) false && a.y == edge_element (elements_in c.base v) true) ≡ true) (g.scope_is
+    ∙ q) h) (taken_good c s Semi a p q g)
 
 pub cases_good : (c : Context) (s : Statement) (entries : List ScopedEntry) → kind_taken s ≡ Semi
     → scope_taken c s ≡ c.scope → IsSmallBoard (elements_at c)
@@ -150,5 +152,6 @@ pub cases_good : (c : Context) (s : Statement) (entries : List ScopedEntry) → 
     → IsGoodOfEdges (elements_at c) Full (carriers_of entries)
 cases_good c s entries p q m g f h = good_cases (elements_at c) (edge_element (elements_at c) false)
     (edge_element (elements_at c) true) entries m
-    (each_both (IsLineTaken c s) (λ a. is_edge_entry c.base a ≡ true) (λ a. IsGoodOfEdges (elements_at c) Semi a.carrier) entries (λ a t i. edge_case c s a p q t i) g
+    (each_both (IsLineTaken c s) (λ a. is_edge_entry c.base a ≡ true) (λ a. IsGoodOfEdges (elements_at c) Semi a.carrier) entries
+    (λ a t i. edge_case c s a p q t i) g
     (each_passes (is_edge_entry c.base) entries h)) f

@@ -81,7 +81,8 @@ key_over : (c : Context) (s : Statement) (a b r : ScopedEntry) (o : Option ℕ) 
     → middle_of a b ≡ o → share_cell (a ∷ b ∷ []) ≡ false
     → option_map_or (ends_meet (elements_at c) a b) o false ≡ false
     → option_and_then
-    (λ u. option_map (λ k. entry_between c Semi (other_end a u) (other_end b u) (with_cell (carriers_of (a ∷ b ∷ [])) k)) (cell_of (elements_at c) u)) o ≡ Some r
+    (λ u. option_map (λ k. entry_between c Semi (other_end a u) (other_end b u) (with_cell (carriers_of (a ∷ b ∷ [])) k)) (cell_of (elements_at c) u)) o
+    ≡ Some r
     → IsGoodEntry c.base r
 key_over c s a b r None p q m g h na nb i f n e = absurd (cc)
 key_over c s a b r (Some u) p q m g h na nb i f n e =

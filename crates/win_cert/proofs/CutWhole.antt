@@ -169,7 +169,8 @@ none_more d marks n lines renamed a w at h =
       clear = w.clear;
       scope = w.scope;
       gives = w.gives
-          ∙ ap (map given) (sym (picked_next (is_marked marks) d.entries n a false at h ∙ append-nil (entries_numbered (is_marked marks) (take n d.entries))));
+          ∙ ap (map given) (sym (picked_next (is_marked marks) d.entries n a false at h
+          ∙ append-nil (entries_numbered (is_marked marks) (take n d.entries))));
       places = λ i b l g q. elim (cases_order i n) [
         | inl p ↦ absurd (true≢false (sym g ∙ ap (is_marked marks) p ∙ h))
         | inr (inl p) ↦ ap (entry_at (after_lines (report_context d) lines))

@@ -96,8 +96,10 @@ good_move base s k c m h g =
                 (StonesLink e (edge_element e false) (edge_element e true))
                 (stones_of w.board base.player) (with_cell own k) c (without_cell (with_cell c k) k)
                 (omega arith) (scope_more base.board base.player s k) kept
-                (λ a b i j l. joined_links e b (subst (λ z. Joined z base.player b) (scope_size base.board base.player (with_cell s k) ∙ sym (scope_size base.board base.player s))
-                (links_join w b (λ q r. i q (scope_more base.board base.player s k q r)) (linked_kept w (edge_element w false) (edge_element w true) a b j l))))
+                (λ a b i j l. joined_links e b (subst (λ z. Joined z base.player b) (scope_size base.board base.player (with_cell s k)
+                ∙ sym (scope_size base.board base.player s))
+                (links_join w b (λ q r. i q (scope_more base.board base.player s k q r))
+                (linked_kept w (edge_element w false) (edge_element w true) a b j l))))
                 g.holds,
           ));
     }

@@ -49,7 +49,8 @@ pub line_clear : (cert : Cert) (k : ℕ) (line : Line) → Accepted cert
     → reason_against (context_at cert k) (Derivation line) ≡ None
 line_clear cert k line h e
     = subst (λ o. option_and_then (reason_against (context_at cert k)) o ≡ None)
-    (at_left (map Derivation cert.lines) (Claim cert.claim cert.entry ∷ []) k (Derivation line) (slice_get-map Derivation cert.lines k ∙ ap (option_map Derivation) e)) (h k)
+    (at_left (map Derivation cert.lines) (Claim cert.claim cert.entry ∷ []) k (Derivation line) (slice_get-map Derivation cert.lines k
+    ∙ ap (option_map Derivation) e)) (h k)
 
 pub claim_clear : (cert : Cert) → Accepted cert
     → reason_against (context_at cert (length cert.lines)) (Claim cert.claim cert.entry) ≡ None

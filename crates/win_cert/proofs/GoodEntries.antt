@@ -99,7 +99,8 @@ good_group e x u y a b m g h d mx my r = record {
   second = misses_both e y a b my h.second;
   holds = concluded e (members a 121 + members b 121) Full x y (bit_or a b) m
       (empty_both e a b g.empty h.empty)
-      (sure_both (members a 121 + members b 121) (members a 121) (members b 121) Full (StonesLink e x u) (StonesLink e u y) (StonesLink e x y) (stones_of e.board e.player) a b (bit_or a b)
+      (sure_both (members a 121 + members b 121) (members a 121) (members b 121) Full (StonesLink e x u) (StonesLink e u y) (StonesLink e x y)
+      (stones_of e.board e.player) a b (bit_or a b)
       (omega arith) (linked_kept e x u) (linked_kept e u y) (linked_kept e x y)
       (λ t i j k. group_links e x u y t i r j k) d (union_left a b) (union_right a b)
       g.holds h.holds);
@@ -118,7 +119,8 @@ good_cell e x u y a b k m g h d mx my r nx ny =
       second = misses_more e y u (bit_or a b) k (misses_both e y a b my h.second) r.1 ny;
       holds = concluded e (suc (members a 121 + members b 121)) Semi x y
           (with_cell (bit_or a b) k) m both
-          (sure_over (members a 121 + members b 121) (members a 121) (members b 121) k (StonesLink e x u) (StonesLink e u y) (StonesLink e x y) (stones_of e.board e.player) a b
+          (sure_over (members a 121 + members b 121) (members a 121) (members b 121) k (StonesLink e x u) (StonesLink e u y) (StonesLink e x y)
+          (stones_of e.board e.player) a b
           (with_cell (bit_or a b) k) (omega arith) (linked_kept e x u) (linked_kept e u y)
           (linked_kept e x y)
           (λ t i j l. cell_links e x u y k t r (i k (with_cell-here (stones_of e.board e.player) k)) j l) d

@@ -63,7 +63,8 @@ head_not_long lines e
                       elim (or_later 4 (line_in (stones_in (codes "black") n.0.0 0) p.0.1) (λ b. tail5 v.0.0 n.0.0 p.0.0 b.0 b.1) TooManyLines p.2) [
                         | inl z ↦ no_cert_at 4 z
                         | inr b ↦
-                            elim (or_later 5 (line_in (stones_in (codes "white") n.0.0 b.0.0) b.0.1) _ TooManyLines b.2) [ inl z ↦ no_cert_at 5 z | inr w ↦ no_ok _ TooManyLines w.2 ]
+                            elim (or_later 5 (line_in (stones_in (codes "white") n.0.0 b.0.0) b.0.1) _ TooManyLines b.2)
+                            [ inl z ↦ no_cert_at 5 z | inr w ↦ no_ok _ TooManyLines w.2 ]
                       ]
                 ]
           ]
@@ -154,7 +155,8 @@ past_front cert rest (suc (suc (suc (suc (suc j))))) m board good some few e =
     let s : Steps = (cert.lines, (cert.claim, cert.entry)) in
     let later = take j (step_lines cert.board.size s) ++ rest in
     let shown : certs_of head later ≡ Err (NotCert m) =
-    sym (ap (λ r. r >>= λ (h : Head × TextLines). certs_of h.0 h.1) (head_back head later (later_some (take j (step_lines cert.board.size s)) rest some) is_head)) ∙ e in
+    sym (ap (λ r. r >>= λ (h : Head × TextLines). certs_of h.0 h.1)
+    (head_back head later (later_some (take j (step_lines cert.board.size s)) rest some) is_head)) ∙ e in
     let b = bad_after cert.version cert.board.size 0 j m s rest board.most good.lines good.entry some (omega (arith, few))
     (steps_err head (steps_in cert.version cert.board.size 0 later) (NotCert m) shown) in
     omega (arith, b)

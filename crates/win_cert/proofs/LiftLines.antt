@@ -102,10 +102,11 @@ more_there : (base : PlayerBoard) (s t : ℕ) → IsSubset s t
 more_there base s t i = record {
   size = scope_size base.board base.player s ∙ sym (scope_size base.board base.player t);
   player = refl;
-  own = λ k h. scope_own base.board base.player t k ∙ elim (or_cases (has (stones_of base.board base.player) k) (has s k) (sym (scope_own base.board base.player s k) ∙ h)) [
-    | inl o ↦ or_left (has (stones_of base.board base.player) k) (has t k) o
-    | inr o ↦ or_right (has (stones_of base.board base.player) k) (has t k) (i k o)
-  ];
+  own = λ k h. scope_own base.board base.player t k ∙ elim (or_cases (has (stones_of base.board base.player) k) (has s k)
+      (sym (scope_own base.board base.player s k) ∙ h)) [
+        | inl o ↦ or_left (has (stones_of base.board base.player) k) (has t k) o
+        | inr o ↦ or_right (has (stones_of base.board base.player) k) (has t k) (i k o)
+      ];
 }
 
 -- ---- the entry
@@ -154,7 +155,8 @@ good_lifted base s t x y v w c kind small i g a b =
       holds = concluded d (members c 121) kind v w rest small (left_empty base s t c g.empty)
           (sure_more (members c 121) (members c 121) kind (StonesLink e x y) (StonesLink d v w) own own rest rest (omega arith) (same own) (same rest)
           (λ p q j k l. link_held e d x y v w p q more a b k j l)
-          (sure_stones (members c 121) kind (StonesLink e x y) (stones_of e.board base.player) own c rest (linked_kept e x y) more.own (covered_by base t c) g.holds));
+          (sure_stones (members c 121) kind (StonesLink e x y) (stones_of e.board base.player) own c rest (linked_kept e x y) more.own (covered_by base t c)
+          g.holds));
     }
 
 -- ---- the line

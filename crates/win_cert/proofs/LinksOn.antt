@@ -87,7 +87,8 @@ group_links e x u y s i g l m
 pub cell_links : (e : PlayerBoard) (x u y k s : ℕ) → IsCell e u k → has s k ≡ true
     → StonesLink e x u s → StonesLink e u y s → StonesLink e x y s
 cell_links e x u y k s c t l m = link_off e x y s
-    (linked_cell (on_board e) x u y k s (own_within e.board e.player) (sym (empty_same e.board k) ∙ c.0) (cell_on e u k c.1) t (link_on e x u s l) (link_on e u y s m))
+    (linked_cell (on_board e) x u y k s (own_within e.board e.player) (sym (empty_same e.board k)
+    ∙ c.0) (cell_on e u k c.1) t (link_on e x u s l) (link_on e u y s m))
 
 -- ---- the player's edges
 
@@ -105,5 +106,6 @@ cell_is e u k h =
     let same : cell_of e u ≡ cell_of d u =
     find_same (λ j. is_empty_at e.board j && is_member e u (at_cell j))
     (λ j. is_empty_at d.board j && is_member d u (at_cell j)) 0 (n * n)
-    (λ j l. ap (λ b. b && is_member e u (at_cell j)) (empty_same e.board j) ∙ ap (λ o. is_empty_at d.board j && option_eq nat_eq o (Some u)) (element_same e j)) in
+    (λ j l. ap (λ b. b && is_member e u (at_cell j)) (empty_same e.board j)
+    ∙ ap (λ o. is_empty_at d.board j && option_eq nat_eq o (Some u)) (element_same e j)) in
     same ∙ sym (cell_test d u (Some k) (own_within e.board e.player) (sym (empty_same e.board k) ∙ h.0, cell_on e u k h.1) tt)

@@ -131,4 +131,5 @@ taken c s g h p q = each_both (IsNamed c s) (λ a. (a.scope == scope_taken c s) 
     (entries_named c s)
     (λ a p q. record { named = p; scope_is = eqb-true a.scope (scope_taken c s) q; good = g p.given.0 a p.given.1 })
     (named_all c s (numbers_in s) (not-false (list_all (λ i. may_take s (entry_at c i)) (numbers_in s)) (sym p ∙ h BadReference)))
-    (each_passes (λ a. a.scope == scope_taken c s) (entries_named c s) (not-false (list_all (λ a. a.scope == scope_taken c s) (entries_named c s)) (sym q ∙ h WrongScope)))
+    (each_passes (λ a. a.scope == scope_taken c s) (entries_named c s) (not-false (list_all (λ a. a.scope == scope_taken c s) (entries_named c s)) (sym q
+    ∙ h WrongScope)))

@@ -108,8 +108,10 @@ move_right c k i d h g =
     (ap (λ o. not (may_take s o && true)) g.at ∙ bad_one (same_kind a.kind Full && true)
     (and_from (same_kind a.kind Full) true (ap (λ v. same_kind v Full) g.kind_is) refl))
     (told_next (is_bad_stone c s) BadStone _ (ap not h)
-    (told_next (is_wrong_scope c s) WrongScope _ (ap (λ es. not (list_all (λ v. v.scope == with_cell c.scope k) es)) (one_at c i a g.at) ∙ bad_one (a.scope == with_cell c.scope k) (eq-eqb a.scope (with_cell c.scope k) g.scope_is))
-    (told_next (is_no_edge_entry c s) NotEdges _ (ap (λ es. not (list_all (is_edge_entry c.base) es)) (one_at c i a g.at) ∙ bad_one (is_edge_entry c.base a) g.edges) refl)))
+    (told_next (is_wrong_scope c s) WrongScope _ (ap (λ es. not (list_all (λ v. v.scope == with_cell c.scope k) es)) (one_at c i a g.at)
+    ∙ bad_one (a.scope == with_cell c.scope k) (eq-eqb a.scope (with_cell c.scope k) g.scope_is))
+    (told_next (is_no_edge_entry c s) NotEdges _ (ap (λ es. not (list_all (is_edge_entry c.base) es)) (one_at c i a g.at)
+    ∙ bad_one (is_edge_entry c.base a) g.edges) refl)))
 
 pub move_gives : (c : Context) (k i d : ℕ) → GivesEdges c Full (with_cell c.scope k) d i
     → GivesEdges (context_after c (Move k i)) Semi c.scope (with_cell d k) (length c.earlier)

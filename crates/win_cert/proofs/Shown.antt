@@ -59,7 +59,8 @@ put_move c p s k i r h w =
       (put_right c s r.fresh, (move_right (put_after c s) k i w.carrier (r.fewer k h) g, tt)),
       record {
         carrier = with_cell w.carrier k;
-        gives = subst (λ j. GivesEdges (after_lines c (Put s ∷ Move k i ∷ [])) Semi s (with_cell w.carrier k) j) (next_number c s) (move_gives (put_after c s) k i w.carrier g);
+        gives = subst (λ j. GivesEdges (after_lines c (Put s ∷ Move k i
+            ∷ [])) Semi s (with_cell w.carrier k) j) (next_number c s) (move_gives (put_after c s) k i w.carrier g);
         empty = λ j m. elim (with_cell-cases w.carrier k j m) [
           | inl o ↦ (placed_empty p c.base.player k j (w.empty j o)).0
           | inr e ↦ subst (λ v. is_empty_at p v ≡ true) (sym e) h
@@ -106,7 +107,8 @@ put_cases c p s numbers carriers r w f = (
   (put_right c s r.fresh, (cases_right (put_after c s) numbers carriers (ways_stay c p s numbers carriers w) f, tt)),
   record {
     carrier = carriers_of (entries_at (put_after c s) numbers);
-    gives = subst (λ j. GivesEdges (after_lines c (Put s ∷ Cases numbers ∷ [])) Full s (carriers_of (entries_at (put_after c s) numbers)) j) (next_number c s) (cases_give (put_after c s) numbers);
+    gives = subst (λ j. GivesEdges (after_lines c (Put s ∷ Cases numbers
+        ∷ [])) Full s (carriers_of (entries_at (put_after c s) numbers)) j) (next_number c s) (cases_give (put_after c s) numbers);
     empty = union_empty c p s numbers carriers w;
     first = λ e. absurd (cc);
   },

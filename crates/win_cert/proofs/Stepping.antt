@@ -52,7 +52,8 @@ pub context_step : (cert : Cert) (k : ℕ) (line : Line) → slice_get cert.line
 context_step cert k line h =
     ap (λ s. context_of (player_board cert) s (entries_below cert (suc k)))
     (scope_more 0 cert.lines k line h)
-    ∙ ap (λ o. context_of (player_board cert) (scope_after (scope_after 0 (take k cert.lines)) (line ∷ [])) (entries_below cert k ++ option_and_then (gives (context_at cert k)) o ∷ [])) h
+    ∙ ap (λ o. context_of (player_board cert) (scope_after (scope_after 0 (take k cert.lines)) (line ∷ [])) (entries_below cert k
+    ++ option_and_then (gives (context_at cert k)) o ∷ [])) h
 
 -- ---- the statements
 
@@ -61,7 +62,8 @@ pub line_reason : {kept : Context} (cert : Cert) (k : ℕ) (line : Line)
     → slice_get cert.lines k ≡ Some line → kept ≡ context_at cert k
     → reason_at cert k ≡ reason_against kept (Derivation line)
 line_reason cert k line h kept = ap (option_and_then (reason_against (context_at cert k)))
-    (at_left (map Derivation cert.lines) (Claim cert.claim cert.entry ∷ []) k (Derivation line) (slice_get-map Derivation cert.lines k ∙ ap (option_map Derivation) h))
+    (at_left (map Derivation cert.lines) (Claim cert.claim cert.entry ∷ []) k (Derivation line) (slice_get-map Derivation cert.lines k
+    ∙ ap (option_map Derivation) h))
     ∙ ap (λ n. reason_against n (Derivation line)) (sym kept)
 
 -- and the one against the claim is the one after all lines

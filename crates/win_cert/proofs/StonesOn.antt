@@ -194,7 +194,11 @@ element_same e k =
     (Some (head_element d k)) (Some (edge_element e true))
     (option_map (head_element e) v) (option_map (head_element d) w)
     (λ h. ap Some (number_same e k (empty_on e.board k h))) rest
-    ∙ (ap (λ (b : Bool). if b then Some (head_element d k) else (if is_tied e false k then Some 0 else (if is_tied e true k then Some (edge_element e true) else option_map (head_element d) w))) (empty_same e.board k)
-    ∙ (ap (λ (b : Bool). if is_empty_at d.board k then Some (head_element d k) else (if b then Some 0 else (if is_tied e true k then Some (edge_element e true) else option_map (head_element d) w))) (tied_same e false k)
-    ∙ (ap (λ (b : Bool). if is_empty_at d.board k then Some (head_element d k) else (if is_tied d false k then Some 0 else (if b then Some (edge_element e true) else option_map (head_element d) w))) (tied_same e true k)
-    ∙ ap (λ (x : ℕ). if is_empty_at d.board k then Some (head_element d k) else (if is_tied d false k then Some 0 else (if is_tied d true k then Some x else option_map (head_element d) w))) (edge_same e true))))
+    ∙ (ap (λ (b : Bool). if b then Some (head_element d k) else (if is_tied e false k then Some 0
+    else (if is_tied e true k then Some (edge_element e true) else option_map (head_element d) w))) (empty_same e.board k)
+    ∙ (ap (λ (b : Bool). if is_empty_at d.board k then Some (head_element d k)
+    else (if b then Some 0 else (if is_tied e true k then Some (edge_element e true) else option_map (head_element d) w))) (tied_same e false k)
+    ∙ (ap (λ (b : Bool). if is_empty_at d.board k then Some (head_element d k)
+    else (if is_tied d false k then Some 0 else (if b then Some (edge_element e true) else option_map (head_element d) w))) (tied_same e true k)
+    ∙ ap (λ (x : ℕ). if is_empty_at d.board k then Some (head_element d k)
+    else (if is_tied d false k then Some 0 else (if is_tied d true k then Some x else option_map (head_element d) w))) (edge_same e true))))

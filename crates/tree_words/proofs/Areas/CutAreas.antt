@@ -115,12 +115,16 @@ module _ (s : Setting) (m n : ℕ) (b a : List ℕ)
     sights_to q c y =
         let visits : (sights_at s1 bs b q c y).visits ≡ (sights_at s2 bs a q c y).visits
         = count-same q _ _
-        (λ k l. ap (λ (z : ℕ). enters s bs c (leaf_in z) && has_cell (stones_of (outcome_of s1 k (node_state s bs (leaf_in z))).full (mover_of s bs y)) (cell_at c (place c y))) (same (2 + k))
-        ∙ ap (λ (o : Ending). enters s bs c (leaf_of a k) && has_cell (stones_of o.full (mover_of s bs y)) (cell_at c (place c y))) (outcome_is s m n k (node_state s bs (leaf_of a k)))) in
+        (λ k l. ap (λ (z : ℕ). enters s bs c (leaf_in z) && has_cell (stones_of (outcome_of s1 k (node_state s bs (leaf_in z))).full (mover_of s bs y))
+        (cell_at c (place c y))) (same (2 + k))
+        ∙ ap (λ (o : Ending). enters s bs c (leaf_of a k) && has_cell (stones_of o.full (mover_of s bs y)) (cell_at c (place c y)))
+        (outcome_is s m n k (node_state s bs (leaf_of a k)))) in
         let wins : (sights_at s1 bs b q c y).wins ≡ (sights_at s2 bs a q c y).wins
         = count-same q _ _
-        (λ k l. ap (λ (z : ℕ). (enters s bs c (leaf_in z) && has_cell (stones_of (outcome_of s1 k (node_state s bs (leaf_in z))).full (mover_of s bs y)) (cell_at c (place c y))) && is_same (outcome_of s1 k (node_state s bs (leaf_in z))).winner (mover_of s bs y)) (same (2 + k))
-        ∙ ap (λ (o : Ending). (enters s bs c (leaf_of a k) && has_cell (stones_of o.full (mover_of s bs y)) (cell_at c (place c y))) && is_same o.winner (mover_of s bs y)) (outcome_is s m n k (node_state s bs (leaf_of a k)))) in
+        (λ k l. ap (λ (z : ℕ). (enters s bs c (leaf_in z) && has_cell (stones_of (outcome_of s1 k (node_state s bs (leaf_in z))).full (mover_of s bs y))
+        (cell_at c (place c y))) && is_same (outcome_of s1 k (node_state s bs (leaf_in z))).winner (mover_of s bs y)) (same (2 + k))
+        ∙ ap (λ (o : Ending). (enters s bs c (leaf_of a k) && has_cell (stones_of o.full (mover_of s bs y)) (cell_at c (place c y)))
+        && is_same o.winner (mover_of s bs y)) (outcome_is s m n k (node_state s bs (leaf_of a k)))) in
         λ i. record { visits = visits i; wins = wins i }
 
     ends_at_to : (q x : ℕ) → ends_at b q x ≡ ends_at a q x

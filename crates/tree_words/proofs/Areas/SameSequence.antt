@@ -120,7 +120,8 @@ module _ (s : Setting) (m : ℕ) (less : m ≤ s.knobs.words) where
 
   asks-same : (n : ℕ) (v : Count) (p : NodeState) → n ≤ end_of c → asks c n v p ≡ asks s n v p
   asks-same n v p l
-      = ap (λ (b : Bool). nat_le s.knobs.expand v.visits && (nat_lt 0 (length (empties_of p.board)) && b)) (le-leb n (end_of c) l ∙ sym (le-leb n (end_of s) (omega (arith, l, less))))
+      = ap (λ (b : Bool). nat_le s.knobs.expand v.visits && (nat_lt 0 (length (empties_of p.board)) && b)) (le-leb n (end_of c) l
+      ∙ sym (le-leb n (end_of s) (omega (arith, l, less))))
 
   low : (n : ℕ) (v : Count) (p : NodeState) → next_after c n v p ≤ end_of c → n ≤ end_of c
   unfolding next_after
@@ -188,7 +189,8 @@ module _ (s : Setting) (m : ℕ) (less : m ≤ s.knobs.words) where
         blocks = k.blocks;
         linked = linked_to s m s.knobs.words words (all_words s words) ahead
             (λ e l h. omega (arith, h, less)) k.blocks k.linked;
-        is = (λ j. tree_at (λ x. count_in (sym (ahead (x + 2)) j)) (λ x. count_in (sym (ahead (x + 3)) j)) bs r (cell_in (sym (ahead r) j)) (count_in (sym (ahead (r + 3)) j))) ∙ k.is;
+        is = (λ j. tree_at (λ x. count_in (sym (ahead (x + 2)) j)) (λ x. count_in (sym (ahead (x + 3)) j)) bs r (cell_in (sym (ahead r) j))
+            (count_in (sym (ahead (r + 3)) j))) ∙ k.is;
       }
 
   tree-to : (words : List ℕ) → min (next_in words) (end_of s) ≤ end_of c

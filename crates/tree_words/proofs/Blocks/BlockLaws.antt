@@ -66,7 +66,10 @@ pub node-cover : (r : ℕ) (bs : List LinkedBlock) (x i : ℕ) → is_node r bs 
 node-cover r [] x i n l = inl (eqb-true x r n)
 node-cover r (b ∷ bs) x i n l = ⊎_elim
     (λ (h : has_node b x ≡ true). inr (omega (arith, cover-cons (x + i) b bs, ap one_if (has-covers b x i h l))))
-    (λ (h : is_node r bs x ≡ true). ⊎_elim (λ (e : x ≡ r). inl e) (λ (p : 0 < cover (x + i) bs). inr (omega (arith, cover-cons (x + i) b bs))) (node-cover r bs x i h l))
+    (λ (h : is_node r bs x ≡ true). ⊎_elim (λ (e : x ≡ r). inl e) (λ (p : 0 < cover (x + i) bs). inr (omega (
+      arith,
+      cover-cons (x + i) b bs,
+    ))) (node-cover r bs x i h l))
     (or_cases (has_node b x) (is_node r bs x) n)
 
 -- no word of a node of the others lies in the new block

@@ -18,7 +18,8 @@ names-out : (bs : List LinkedBlock) (x y : ℕ) (b : LinkedBlock) → Names bs x
     → has_node b y ≡ false
 names-out [] x y b n out = absurd n
 names-out (c ∷ bs) x y b n out
-    = ⊎_elim (λ (e : (c ≡ b) × (b.parent ≡ x)). sym (ap (λ (d : LinkedBlock). has_node d y) e.0) ∙ out.0) (λ (e : ((c.parent == x) ≡ false) × Names bs x b). names-out bs x y b e.1 out.1) n
+    = ⊎_elim (λ (e : (c ≡ b) × (b.parent ≡ x)). sym (ap (λ (d : LinkedBlock). has_node d y) e.0)
+    ∙ out.0) (λ (e : ((c.parent == x) ≡ false) × Names bs x b). names-out bs x y b e.1 out.1) n
 
 module _ {A : Type 0} (leaf : ℕ → A) (inner : LinkedBlock → ℕ → (ℕ → A) → A) where
   -- what is found from x goes by its block, with all blocks again: this is what a loop that follows
@@ -33,7 +34,8 @@ module _ {A : Type 0} (leaf : ℕ → A) (inner : LinkedBlock → ℕ → (ℕ �
       down-here leaf inner c bs x (eq-eqb c.parent x at)
       ∙ ap (λ (d : LinkedBlock). inner d x (down leaf inner bs)) e.0
       ∙ local (down leaf inner bs) (down leaf inner (c ∷ bs))
-      (λ y h. sym (down-else leaf inner c bs y (ne_eqb c.parent y (λ z. clash (has_node b y) h (ap (λ (d : LinkedBlock). has_node d y) (sym e.0) ∙ ap (has_node c) (sym z) ∙ r.0))))))
+      (λ y h. sym (down-else leaf inner c bs y (ne_eqb c.parent y (λ z. clash (has_node b y) h (ap (λ (d : LinkedBlock). has_node d y) (sym e.0)
+      ∙ ap (has_node c) (sym z) ∙ r.0))))))
       (λ (e : ((c.parent == x) ≡ false) × Names bs x b).
       down-else leaf inner c bs x e.0 ∙ down-link bs x b r.2 e.1 local
       ∙ local (down leaf inner bs) (down leaf inner (c ∷ bs))
@@ -65,7 +67,8 @@ module _ {S O : Type 0} (g : Game S O) (fair : Fair g) (p q : ℕ → Count) whe
       (g.next s (cell_at b (pick g p q b x)))
   state-link bs x b s r n l
       = ap (λ (f : S → Count × S). f s) (down-link (state_leaf g p q) (state_inner g p q) bs x b r n
-      (λ f h e. ap (λ (z : S → Count × S). λ (u : S). z (g.next u (cell_at b (pick g p q b x)))) (e (child b (pick g p q b x)) (child-has b (pick g p q b x) (pick-in g fair p q b x l)))))
+      (λ f h e. ap (λ (z : S → Count × S). λ (u : S). z (g.next u (cell_at b (pick g p q b x))))
+      (e (child b (pick g p q b x)) (child-has b (pick g p q b x) (pick-in g fair p q b x l)))))
 
   pub adds-link : (o : O) (bs : List LinkedBlock) (x : ℕ) (b : LinkedBlock) (s : S) (w : ℕ)
       → Rooted bs → Names bs x b → 0 < length b.cells
@@ -74,7 +77,8 @@ module _ {S O : Type 0} (g : Game S O) (fair : Fair g) (p q : ℕ → Count) whe
   adds-link o bs x b s w r n l
       = ap (λ (f : S → ℕ → Count). f s w)
       (down-link (adds_leaf g p q o) (adds_inner g p q o) bs x b r n
-      (λ f h e. ap (λ (z : S → ℕ → Count). λ (u : S) (v : ℕ). cond (x == v) (g.gain o u) (z (g.next u (cell_at b (pick g p q b x))) v)) (e (child b (pick g p q b x)) (child-has b (pick g p q b x) (pick-in g fair p q b x l)))))
+      (λ f h e. ap (λ (z : S → ℕ → Count). λ (u : S) (v : ℕ). cond (x == v) (g.gain o u) (z (g.next u (cell_at b (pick g p q b x))) v))
+      (e (child b (pick g p q b x)) (child-has b (pick g p q b x) (pick-in g fair p q b x l)))))
 
   pub sees-link : (o : O) (bs : List LinkedBlock) (x : ℕ) (b : LinkedBlock) (s : S) (w : ℕ)
       → Rooted bs → Names bs x b → 0 < length b.cells
@@ -83,4 +87,5 @@ module _ {S O : Type 0} (g : Game S O) (fair : Fair g) (p q : ℕ → Count) whe
   sees-link o bs x b s w r n l
       = ap (λ (f : S → ℕ → Count). f s w)
       (down-link (sees_leaf g p q o) (sees_inner g p q o) bs x b r n
-      (λ f h e. ap (λ (z : S → ℕ → Count). λ (u : S) (v : ℕ). cond (has_node b v) (g.glimpse o u (cell_at b (place b v))) (z (g.next u (cell_at b (pick g p q b x))) v)) (e (child b (pick g p q b x)) (child-has b (pick g p q b x) (pick-in g fair p q b x l)))))
+      (λ f h e. ap (λ (z : S → ℕ → Count). λ (u : S) (v : ℕ). cond (has_node b v) (g.glimpse o u (cell_at b (place b v)))
+      (z (g.next u (cell_at b (pick g p q b x))) v)) (e (child b (pick g p q b x)) (child-has b (pick g p q b x) (pick-in g fair p q b x l)))))

@@ -14,7 +14,11 @@ pub node-in : (r : ℕ) (bs : List LinkedBlock) (x : ℕ) → is_node r bs x ≡
 node-in r [] x n = inl (eqb-true x r n)
 node-in r (b ∷ bs) x n = ⊎_elim
     (λ (h : has_node b x ≡ true). inr (b, inl refl, h))
-    (λ (h : is_node r bs x ≡ true). ⊎_elim (λ (e : x ≡ r). inl e) (λ (t : (c : LinkedBlock) × In c bs × (has_node c x ≡ true)). inr (t.0, inr t.1, t.2)) (node-in r bs x h))
+    (λ (h : is_node r bs x ≡ true). ⊎_elim (λ (e : x ≡ r). inl e) (λ (t : (c : LinkedBlock) × In c bs × (has_node c x ≡ true)). inr (
+      t.0,
+      inr t.1,
+      t.2,
+    )) (node-in r bs x h))
     (or_cases (has_node b x) (is_node r bs x) n)
 
 -- a block is one of the blocks, in either order

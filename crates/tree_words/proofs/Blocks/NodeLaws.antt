@@ -30,7 +30,8 @@ nodes-apart r (b ∷ bs) x y i j g n m li lj e = ⊎_elim
     (λ (u : is_node r bs y ≡ true). absurd (clash (covers (x + i) b) (has-covers b x i h li) (ap (λ (z : ℕ). covers z b) e ∙ node-apart r b bs y j g.0 u lj)))
     (or_cases (has_node b y) (is_node r bs y) m))
     (λ (h : is_node r bs x ≡ true). ⊎_elim
-    (λ (u : has_node b y ≡ true). absurd (clash (covers (y + j) b) (has-covers b y j u lj) (ap (λ (z : ℕ). covers z b) (sym e) ∙ node-apart r b bs x i g.0 h li)))
+    (λ (u : has_node b y ≡ true). absurd (clash (covers (y + j) b) (has-covers b y j u lj) (ap (λ (z : ℕ). covers z b) (sym e)
+    ∙ node-apart r b bs x i g.0 h li)))
     (λ (u : is_node r bs y ≡ true). nodes-apart r bs x y i j g.1 h u li lj e)
     (or_cases (has_node b y) (is_node r bs y) m))
     (or_cases (has_node b x) (is_node r bs x) n)
@@ -75,8 +76,10 @@ pub stays-clear : (r : ℕ) (bs : List LinkedBlock) (c : LinkedBlock) (i x j : �
 stays-clear r [] c i x j g n li st m l1 l4 e = n
 stays-clear r (b ∷ bs) c i x j g n li st m l1 l4 e = ⊎_elim
     (λ (q : c ≡ b). ⊎_elim
-    (λ (h : has_node b x ≡ true). let p = has-at b x h in let s : c.start ≡ b.start = ap (λ (d : LinkedBlock). d.start) q in not-stays i p.0 j l1 l4 (omega (arith, p.2, e, s)) st)
-    (λ (h : is_node r bs x ≡ true). clash (covers (x + j) b) (sym (ap (λ (z : ℕ). covers z b) e) ∙ ap (covers (c.start + i)) (sym q) ∙ covers_if (c.start + i) c (omega arith) (omega (arith, li))) (node-apart r b bs x j g.0 h l4))
+    (λ (h : has_node b x ≡ true). let p = has-at b x h in let s : c.start
+    ≡ b.start = ap (λ (d : LinkedBlock). d.start) q in not-stays i p.0 j l1 l4 (omega (arith, p.2, e, s)) st)
+    (λ (h : is_node r bs x ≡ true). clash (covers (x + j) b) (sym (ap (λ (z : ℕ). covers z b) e) ∙ ap (covers (c.start + i)) (sym q)
+    ∙ covers_if (c.start + i) c (omega arith) (omega (arith, li))) (node-apart r b bs x j g.0 h l4))
     (or_cases (has_node b x) (is_node r bs x) m))
     (λ (q : In c bs). ⊎_elim
     (λ (h : has_node b x ≡ true). let z : cover (x + j) bs ≡ 0 = g.0.clear (x + j) (has-covers b x j h l4) in
@@ -92,7 +95,11 @@ pub node-lies : (s : Setting) (next : ℕ) (bs : List LinkedBlock) (x : ℕ) →
     → (x ≡ root_at s) ⊎ ((area_at s ≤ x) × (x + 4 ≤ next) × (x + 4 ≤ end_of s))
 node-lies s next [] x c n = inl (eqb-true x (root_at s) n)
 node-lies s next (b ∷ bs) x c n = ⊎_elim
-    (λ (h : has_node b x ≡ true). let p = has-at b x h in inr (omega (arith, p.2, c.0.inside.0), omega (arith, p.1, p.2, c.0.claimed), omega (arith, p.1, p.2, c.0.inside.1)))
+    (λ (h : has_node b x ≡ true). let p = has-at b x h in inr (
+      omega (arith, p.2, c.0.inside.0),
+      omega (arith, p.1, p.2, c.0.claimed),
+      omega (arith, p.1, p.2, c.0.inside.1),
+    ))
     (λ (h : is_node (root_at s) bs x ≡ true). node-lies s next bs x c.1 h)
     (or_cases (has_node b x) (is_node (root_at s) bs x) n)
 
@@ -101,7 +108,8 @@ pub link-none : (r : ℕ) (bs : List LinkedBlock) (x : ℕ) → InOrder r bs →
     → link_of bs x ≡ 0
 link-none r [] x g n = refl
 link-none r (b ∷ bs) x g n = ⊎_elim
-    (λ (t : (b.parent == x) ≡ true). absurd (clash (is_node r bs x) (ap (is_node r bs) (sym (eqb-true b.parent x t)) ∙ g.0.parent) (later (has_node b x) (is_node r bs x) n)))
+    (λ (t : (b.parent == x) ≡ true). absurd (clash (is_node r bs x) (ap (is_node r bs) (sym (eqb-true b.parent x t))
+    ∙ g.0.parent) (later (has_node b x) (is_node r bs x) n)))
     (λ (t : (b.parent == x) ≡ false). ap (λ (u : Bool). cond u b.start (link_of bs x)) t ∙ link-none r bs x g.1 (later (has_node b x) (is_node r bs x) n))
     (cases_Bool (b.parent == x))
   where
@@ -114,7 +122,12 @@ pub cover-none : (s : Setting) (next : ℕ) (bs : List LinkedBlock) (i : ℕ) �
     → next ≤ i → cover i bs ≡ 0
 cover-none s next [] i c l = refl
 cover-none s next (b ∷ bs) i c l
-    = omega (arith, cover-cons i b bs, cover-none s next bs i c.1 l, ap one_if (false_from_ne_true (covers i b) (λ t. let u = covers_of i b t in omega (arith, u.1, c.0.claimed))))
+    = omega (
+      arith,
+      cover-cons i b bs,
+      cover-none s next bs i c.1 l,
+      ap one_if (false_from_ne_true (covers i b) (λ t. let u = covers_of i b t in omega (arith, u.1, c.0.claimed))),
+    )
 
 pub complete-more : (s : Setting) (m n : ℕ) (bs : List LinkedBlock) → m ≤ n → AreComplete s m bs
     → AreComplete s n bs
@@ -132,7 +145,8 @@ ends-turned s next (b ∷ bs) c
 top-inside : (os : List LinkedBlock) (w : ℕ) → (top os w ≡ w) ⊎ Inside os w
 top-inside [] w = inl refl
 top-inside (b ∷ os) w = ⊎_elim
-    (λ (e : top os w ≡ w). ⊎_elim (λ (h : has_node b w ≡ true). inr (inl h)) (λ (h : has_node b w ≡ false). inl (top-past b os w w e h)) (cases_Bool (has_node b w)))
+    (λ (e : top os w ≡ w). ⊎_elim (λ (h : has_node b w ≡ true). inr (inl h)) (λ (h : has_node b w
+    ≡ false). inl (top-past b os w w e h)) (cases_Bool (has_node b w)))
     (λ (i : Inside os w). inr (inr i)) (top-inside os w)
 
 pub under-root : (os : List LinkedBlock) (r w : ℕ) → top os w ≡ r → (w ≡ r) ⊎ Inside os w
@@ -151,12 +165,18 @@ module _ {S O : Type 0} (g : Game S O) (fair : Fair g) (p q : ℕ → Count) whe
       = child-has b (pick g p q b x) (pick-in g fair p q b x sp.0.some) in
       let lf : ℕ = leaf_at g p q os y in
       let o : Out os y = sp.0.apart y h in
-      subst (Bare (b ∷ os)) (sym (down-here (λ (z : ℕ). z) (leaf_inner g p q) b os x t))
-      (ne_eqb b.parent lf (λ e. clash (has_node b b.parent) (ap (has_node b) (sym (top-out os b.parent ro.1) ∙ ap (top os) e ∙ leaf-top g fair p q os y sp.1 o) ∙ h) ro.0), leaf-bare os y sp.1 ro.2 o))
+      subst (Bare (b ∷ os)) (sym (down-here (λ (z : ℕ). z) (leaf_inner g p q) b os x t)) (
+        ne_eqb b.parent lf (λ e. clash (has_node b b.parent) (ap (has_node b) (sym (top-out os b.parent ro.1) ∙ ap (top os) e
+            ∙ leaf-top g fair p q os y sp.1 o) ∙ h) ro.0),
+        leaf-bare os y sp.1 ro.2 o,
+      ))
       (λ (t : (b.parent == x) ≡ false).
       let lf : ℕ = leaf_at g p q os x in
-      subst (Bare (b ∷ os)) (sym (down-else (λ (z : ℕ). z) (leaf_inner g p q) b os x t))
-      (ne_eqb b.parent lf (λ e. clash (b.parent == x) (is b.parent x (sym (top-out os b.parent ro.1) ∙ ap (top os) e ∙ leaf-top g fair p q os x sp.1 out.1)) t), leaf-bare os x sp.1 ro.2 out.1))
+      subst (Bare (b ∷ os)) (sym (down-else (λ (z : ℕ). z) (leaf_inner g p q) b os x t)) (
+        ne_eqb b.parent lf (λ e. clash (b.parent == x) (is b.parent x (sym (top-out os b.parent ro.1) ∙ ap (top os) e
+            ∙ leaf-top g fair p q os x sp.1 out.1)) t),
+        leaf-bare os x sp.1 ro.2 out.1,
+      ))
       (cases_Bool (b.parent == x))
     where
       is : (a b : ℕ) → a ≡ b → (a == b) ≡ true

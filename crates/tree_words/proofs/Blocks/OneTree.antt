@@ -139,7 +139,8 @@ module _ (s : Setting) (words : List ℕ) (bs cs : List LinkedBlock) (small : s.
       (b.start + 4) b.cells
       = row-same (λ y d. tree_at p q (oldest_first bs) y d (q y))
       (λ y d. tree_at p q (oldest_first cs) y d (q y)) (b.start + 4) b.cells
-      (λ i y li iy. one-below n y (get_or b.cells i 0) (q y) (omega (arith, l, iy, above, at.1)) (in-node r bs b y inside (ap (has_node b) iy ∙ child-has b i li))) in
+      (λ i y li iy. one-below n y (get_or b.cells i 0) (q y) (omega (arith, l, iy, above, at.1)) (in-node r bs b y inside (ap (has_node b) iy
+      ∙ child-has b i li))) in
       ap (λ (f : ℕ → Count → Tree). f c v) (tree-link p q r bs x b h.order t.1)
       ∙ ap (node c (p x) v) rows
       ∙ sym (ap (λ (f : ℕ → Count → Tree). f c v) (tree-link p q r cs x b k.order names')))

@@ -20,7 +20,8 @@ pub inside-node : (r : ℕ) (bs : List LinkedBlock) (x : ℕ) → Inside (oldest
     → is_node r bs x ≡ true
 inside-node r [] x i = absurd i
 inside-node r (b ∷ bs) x i
-    = ⊎_elim (λ (h : Inside (oldest_first bs) x). or_right (has_node b x) (is_node r bs x) (inside-node r bs x h)) (λ (h : has_node b x ≡ true). or_left (has_node b x) (is_node r bs x) h) (inside-snoc b (oldest_first bs) x i)
+    = ⊎_elim (λ (h : Inside (oldest_first bs) x). or_right (has_node b x) (is_node r bs x) (inside-node r bs x h)) (λ (h : has_node b x
+    ≡ true). or_left (has_node b x) (is_node r bs x) h) (inside-snoc b (oldest_first bs) x i)
 
 snoc : (n : LinkedBlock) (os : List LinkedBlock) → Sprouts os
     → ((x : ℕ) → Inside os x → has_node n x ≡ false) → 0 < length n.cells → Sprouts (os ++ n ∷ [])
@@ -82,7 +83,8 @@ pub link-bare : (r : ℕ) (bs : List LinkedBlock) (x : ℕ) → InOrder r bs →
     → Bare (oldest_first bs) x
 link-bare r [] x g e = tt
 link-bare r (b ∷ bs) x g e = ⊎_elim
-    (λ (t : (b.parent == x) ≡ true). let z : b.start ≡ 0 = sym (ap (λ (u : Bool). cond u b.start (link_of bs x)) t) ∙ e in let l = g.0.root in absurd (omega arith))
+    (λ (t : (b.parent == x) ≡ true). let z : b.start ≡ 0 = sym (ap (λ (u : Bool). cond u b.start (link_of bs x)) t)
+    ∙ e in let l = g.0.root in absurd (omega arith))
     (λ (t : (b.parent == x) ≡ false). bare-snoc b (oldest_first bs) x (link-bare r bs x g.1 (sym (ap (λ (u : Bool). cond u b.start (link_of bs x)) t) ∙ e)) t)
     (cases_Bool (b.parent == x))
 
@@ -103,8 +105,11 @@ pub link-names : (r : ℕ) (bs : List LinkedBlock) (x : ℕ) → InOrder r bs �
 link-names r [] x g l = absurd (omega arith)
 link-names r (b ∷ bs) x g l = ⊎_elim
     (λ (t : (b.parent == x) ≡ true).
-    let at : b.parent ≡ x = eqb-true b.parent x t in
-    (b, names-last b (oldest_first bs) x (link-bare r bs x g.1 (ap (link_of bs) (sym at) ∙ g.0.vacant)) at, sym (ap (λ (u : Bool). cond u b.start (link_of bs x)) t)))
+    let at : b.parent ≡ x = eqb-true b.parent x t in (
+      b,
+      names-last b (oldest_first bs) x (link-bare r bs x g.1 (ap (link_of bs) (sym at) ∙ g.0.vacant)) at,
+      sym (ap (λ (u : Bool). cond u b.start (link_of bs x)) t),
+    ))
     (λ (t : (b.parent == x) ≡ false).
     let is : link_of (b ∷ bs) x ≡ link_of bs x
     = ap (λ (u : Bool). cond u b.start (link_of bs x)) t in

@@ -33,7 +33,8 @@ module _ {A : Type 0} (root : A) (step : LinkedBlock → ℕ → A → A) where
       (λ (h : has_node c x ≡ false).
       ap (λ (t : Bool). cond t (step c x (up root step ks c.parent)) (up root step ks x)) h
       ∙ within-up r bs ks x g k.2
-      (⊎_elim (λ (u : has_node c x ≡ true). absurd (clash (has_node c x) u h)) (λ (u : is_node r ks x ≡ true). u) (or_cases (has_node c x) (is_node r ks x) n)))
+      (⊎_elim (λ (u : has_node c x ≡ true). absurd (clash (has_node c x) u h)) (λ (u : is_node r ks x
+      ≡ true). u) (or_cases (has_node c x) (is_node r ks x) n)))
       (cases_Bool (has_node c x))
 
 -- the board of a known node, and the player to move there

@@ -28,7 +28,14 @@ rows_rise s words h k l =
     = length-map (rows_of s words) (λ (r : Row). r.cell)
     ∙ length-map-range_with_len (row_at s words) 0 n in
     let m : k + 1 < n = omega (arith, l, len) in
-    omega (arith, h.rise k (omega (arith, m, h.count)), cell_at (row_at s words) n k (omega (arith, m)), cell_at (row_at s words) n (k + 1) m, h.cells k (omega (arith, m)), h.cells (k + 1) m)
+    omega (
+      arith,
+      h.rise k (omega (arith, m, h.count)),
+      cell_at (row_at s words) n k (omega (arith, m)),
+      cell_at (row_at s words) n (k + 1) m,
+      h.cells k (omega (arith, m)),
+      h.cells (k + 1) m,
+    )
 
 pub one_row_more : (f : ℕ → Row) (n : ℕ) (rows next : List Row) (row : Row)
     → rows ≡ map f (range_with_len 0 n) → row ≡ f n → next ≡ rows ++ row ∷ []

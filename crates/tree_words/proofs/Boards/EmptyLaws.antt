@@ -72,7 +72,13 @@ pub members-listed : (set n : ℕ)
 unfolding members
 members-listed set zero = refl
 members-listed set (suc n)
-    = omega (arith, members-listed set n, ap length (filter_more (has_cell set) 0 n n (omega arith)), length-append (filter (has_cell set) (range_with_len 0 n)) (cond (has_cell set n) (n ∷ []) []), one (has_cell set n) n)
+    = omega (
+      arith,
+      members-listed set n,
+      ap length (filter_more (has_cell set) 0 n n (omega arith)),
+      length-append (filter (has_cell set) (range_with_len 0 n)) (cond (has_cell set n) (n ∷ []) []),
+      one (has_cell set n) n,
+    )
   where
     one : (t : Bool) (n : ℕ) → length (cond t (n ∷ []) []) ≡ cond t 1 0
     one true n = refl

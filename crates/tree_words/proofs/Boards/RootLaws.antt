@@ -71,7 +71,13 @@ rising_range p n = IsStrictlyIncreasing-filter p (range_with_len 0 n) up
   where
     up : (k : ℕ) → k + 1 < length (range_with_len 0 n)
         → get_or (range_with_len 0 n) k 0 < get_or (range_with_len 0 n) (k + 1) 0
-    up k l = omega (arith, l, length-range_with_len 0 n, get_or-range_with_len 0 n k 0 (omega (arith, l, length-range_with_len 0 n)), get_or-range_with_len 0 n (k + 1) 0 (omega (arith, l, length-range_with_len 0 n)))
+    up k l = omega (
+      arith,
+      l,
+      length-range_with_len 0 n,
+      get_or-range_with_len 0 n k 0 (omega (arith, l, length-range_with_len 0 n)),
+      get_or-range_with_len 0 n (k + 1) 0 (omega (arith, l, length-range_with_len 0 n)),
+    )
 
 -- the root's block, if any block is linked
 pub find_root : (r : ℕ) (b : LinkedBlock) (bs : List LinkedBlock) → InOrder r (b ∷ bs)
@@ -144,6 +150,11 @@ has_root s words h c =
       few = omega (arith, few, count, len);
       cells = cell;
       on_board = λ i l. omega (arith, cell i l, (filter_at (has_cell s.allowed) 0 n i (omega (arith, l, count, len))).1);
-      numbers = λ i l. omega (arith, cell i l, (filter_at (has_cell s.allowed) 0 n i (omega (arith, l, count, len))).1, square_small s.board.size h.position.most);
+      numbers = λ i l. omega (
+        arith,
+        cell i l,
+        (filter_at (has_cell s.allowed) 0 n i (omega (arith, l, count, len))).1,
+        square_small s.board.size h.position.most,
+      );
       rise = rising_range (has_cell s.allowed) n;
     }

@@ -24,8 +24,10 @@ set_items (c ∷ cs) k =
     ∙ ap (λ (t : Bool). t || k == c) (set_items cs k)
     ∙ ap (λ (t : Bool). nat_lt 0 (count_by (λ d. d == k) cs) || t) (same_eq k c)
     ∙ ⊎_elim
-    (λ (t : (c == k) ≡ true). ap (λ (u : Bool). nat_lt 0 (count_by (λ d. d == k) cs) || u) t ∙ here (count_by (λ d. d == k) cs) (count_by (λ d. d == k) (c ∷ cs)) (counted_here k c cs (eqb-true c k t)))
-    (λ (t : (c == k) ≡ false). ap (λ (u : Bool). nat_lt 0 (count_by (λ d. d == k) cs) || u) t ∙ or-false (nat_lt 0 (count_by (λ d. d == k) cs)) ∙ sym (ap (nat_lt 0) (counted_later k c cs (λ e. clash (c == k) (eq-eqb c k e) t))))
+    (λ (t : (c == k) ≡ true). ap (λ (u : Bool). nat_lt 0 (count_by (λ d. d == k) cs) || u) t
+    ∙ here (count_by (λ d. d == k) cs) (count_by (λ d. d == k) (c ∷ cs)) (counted_here k c cs (eqb-true c k t)))
+    (λ (t : (c == k) ≡ false). ap (λ (u : Bool). nat_lt 0 (count_by (λ d. d == k) cs) || u) t ∙ or-false (nat_lt 0 (count_by (λ d. d == k) cs))
+    ∙ sym (ap (nat_lt 0) (counted_later k c cs (λ e. clash (c == k) (eq-eqb c k e) t))))
     (cases_Bool (c == k))
   where
     here : (n m : ℕ) → m ≡ 1 + n → (nat_lt 0 n || true) ≡ nat_lt 0 m

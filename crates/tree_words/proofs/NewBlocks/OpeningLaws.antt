@@ -43,7 +43,8 @@ module _ (s : Setting) (words : List ℕ) (e : ℕ) (set : IsSetting s) (empties
 
   -- a word that is neither NEXT nor TICKET nor the root's link
   other : (i : ℕ) → i < end_of s → 2 ≤ i → (i ≡ root_at s + 1 → ⊥)
-      → get_or words i 0 ≡ cond (covers i (root_block s e) && is_header_or_move (i - (root_block s e).start)) (header_or_move (root_block s e) (i - (root_block s e).start)) 0
+      → get_or words i 0 ≡ cond (covers i (root_block s e) && is_header_or_move (i - (root_block s e).start))
+      (header_or_move (root_block s e) (i - (root_block s e).start)) 0
   other i l m d =
       let c : LinkedBlock = root_block s e in
       let rest : ℕ = cond (covers i c && is_header_or_move (i - c.start))
@@ -70,7 +71,8 @@ module _ (s : Setting) (words : List ℕ) (e : ℕ) (set : IsSetting s) (empties
   clear i m d o = ⊎_elim
       (λ (l : i < end_of s).
       other i l m d
-      ∙ ap (λ (t : Bool). cond (t && is_header_or_move (i - area_at s)) (header_or_move (root_block s e) (i - area_at s)) 0) (false_from_ne_true (covers i (root_block s e)) (λ t. let u = covers_of i (root_block s e) t in
+      ∙ ap (λ (t : Bool). cond (t && is_header_or_move (i - area_at s)) (header_or_move (root_block s e) (i - area_at s)) 0)
+      (false_from_ne_true (covers i (root_block s e)) (λ t. let u = covers_of i (root_block s e) t in
       ⊎_elim (λ (q : i < area_at s). omega (arith, u.0))
       (λ (q : opening_next s ≤ i). omega (arith, u.1)) o)))
       (λ (l : end_of s ≤ i). get_or_past words i 0 (omega (arith, long)))
@@ -83,7 +85,8 @@ module _ (s : Setting) (words : List ℕ) (e : ℕ) (set : IsSetting s) (empties
       let fit = root-fits s set in
       let at : area_at s + i - area_at s ≡ i = omega arith in
       other (area_at s + i) (omega arith) (omega arith) (λ z. omega arith)
-      ∙ ap (λ (t : Bool). cond (t && is_header_or_move (area_at s + i - area_at s)) (header_or_move (root_block s e) (area_at s + i - area_at s)) 0) (covers_if (area_at s + i) (root_block s e) (omega arith) (omega (arith, l)))
+      ∙ ap (λ (t : Bool). cond (t && is_header_or_move (area_at s + i - area_at s)) (header_or_move (root_block s e) (area_at s
+      + i - area_at s)) 0) (covers_if (area_at s + i) (root_block s e) (omega arith) (omega (arith, l)))
       ∙ ap (λ (j : ℕ). cond (is_header_or_move j) (header_or_move (root_block s e) j) 0) at
 
   pub node-word : (x j : ℕ) → has_node (root_block s e) x ≡ true → 1 ≤ j → j < 4
@@ -101,9 +104,14 @@ module _ (s : Setting) (words : List ℕ) (e : ℕ) (set : IsSetting s) (empties
   pub no-counts : (x : ℕ) → is_node (root_at s) (root_block s e ∷ []) x ≡ true
       → (tally_in words x ≡ nothing) × (seen_in words x ≡ nothing)
   no-counts x n = ⊎_elim
-      (λ (t : has_node (root_block s e) x ≡ true). (ap count_in (node-word x 2 t (omega arith) (omega arith)), ap count_in (node-word x 3 t (omega arith) (omega arith))))
-      (λ (t : (x == root_at s) ≡ true). let q = eqb-true x (root_at s) t in
-      (ap count_in (ap (λ (z : ℕ). get_or words (z + 2) 0) q ∙ root-word 2 (omega arith) (λ z. omega arith)), ap count_in (ap (λ (z : ℕ). get_or words (z + 3) 0) q ∙ root-word 3 (omega arith) (λ z. omega arith))))
+      (λ (t : has_node (root_block s e) x ≡ true). (
+        ap count_in (node-word x 2 t (omega arith) (omega arith)),
+        ap count_in (node-word x 3 t (omega arith) (omega arith)),
+      ))
+      (λ (t : (x == root_at s) ≡ true). let q = eqb-true x (root_at s) t in (
+        ap count_in (ap (λ (z : ℕ). get_or words (z + 2) 0) q ∙ root-word 2 (omega arith) (λ z. omega arith)),
+        ap count_in (ap (λ (z : ℕ). get_or words (z + 3) 0) q ∙ root-word 3 (omega arith) (λ z. omega arith)),
+      ))
       (or_cases (has_node (root_block s e) x) (x == root_at s) n)
 
   -- they link the root's block, which is complete

@@ -48,7 +48,8 @@ opening-written s root e count cells before words h zeros at is set w many =
     let start : root + 4 ≡ area_at s = omega (arith, at) in
     let v : WritesBlock b before words
     = subst (λ (r : ℕ). WritesBlock (block_of (area_at s) r e (allowed_cells s)) before words) at
-    (subst (λ (a : ℕ). WritesBlock (block_of a root e (allowed_cells s)) before words) start (subst (λ (l : List ℕ). WritesBlock (block_of (root + 4) root e l) before words) is w)) in
+    (subst (λ (a : ℕ). WritesBlock (block_of a root e (allowed_cells s)) before words) start
+    (subst (λ (l : List ℕ). WritesBlock (block_of (root + 4) root e l) before words) is w)) in
     let long : length words ≡ end_of s = w.long ∙ ap length zeros ∙ length-replicate (end_of s) 0 in
     let w1 : List ℕ = set_word words (root + 1) (root + 4) in
     let w2 : List ℕ = set_word w1 0 (root + 4 + 4 + 4 * count) in
@@ -78,7 +79,8 @@ opening-written s root e count cells before words h zeros at is set w many =
           ∙ sym (first ∙ ap (λ (t : Bool). cond t b.start rest) (eq-eqb i (root_at s + 1) (q ∙ ap (λ (z : ℕ). z + 1) at))))
           (λ (n : i ≡ root + 1 → ⊥).
           get_or-set_other words (root + 1) i (root + 4) 0 n ∙ v.each i
-          ∙ ap (λ (z : ℕ). cond (covers i b && is_header_or_move (i - b.start)) (header_or_move b (i - b.start)) z) (ap (λ (x : List ℕ). get_or x i 0) zeros ∙ get_or-replicate (end_of s) i 0 0 l)
+          ∙ ap (λ (z : ℕ). cond (covers i b && is_header_or_move (i - b.start)) (header_or_move b (i - b.start)) z) (ap (λ (x : List ℕ). get_or x i 0) zeros
+          ∙ get_or-replicate (end_of s) i 0 0 l)
           ∙ sym (first ∙ ap (λ (t : Bool). cond t b.start rest) (ne_eqb i (root_at s + 1) (λ z. n (z ∙ ap (λ (u : ℕ). u + 1) (sym at))))))
           (cases_eq i (root + 1)))
           (cases_eq i 0);

@@ -39,7 +39,8 @@ no-moves a p e words = record {
 
 -- a node of the longer block, but the last, is one of the shorter
 same-has : (a n i : ℕ) → (i ≡ a + (4 + 4 * n) → ⊥)
-    → (nat_le (a + 4) i && (nat_lt i (a + (4 + 4 * (n + 1))) && ((i - a) % 4 == 0))) ≡ (nat_le (a + 4) i && (nat_lt i (a + (4 + 4 * n)) && ((i - a) % 4 == 0)))
+    → (nat_le (a + 4) i && (nat_lt i (a + (4 + 4 * (n + 1))) && ((i - a) % 4 == 0)))
+    ≡ (nat_le (a + 4) i && (nat_lt i (a + (4 + 4 * n)) && ((i - a) % 4 == 0)))
 same-has a n i d = ⊎_elim
     (λ (l : i < a + (4 + 4 * n)). grind (arith, nat_tests))
     (λ (l : a + (4 + 4 * n) ≤ i). ⊎_elim
@@ -79,7 +80,8 @@ one-move a p e cs c at before words is l w =
           let k = has-at b i t in
           let low : place b i < length cs = omega (arith, k.1, k.2) in
           ap (λ (u : Bool). cond u (move_word (place b i) (cell_at b (place b i))) (get_or before i 0)) t
-          ∙ sym (ap (λ (u : Bool). cond u (move_word (place d i) (cell_at d (place d i))) (get_or before i 0)) (h ∙ t) ∙ ap (move_word (place b i)) (get_or-append cs (c ∷ []) 0 (place b i) low)))
+          ∙ sym (ap (λ (u : Bool). cond u (move_word (place d i) (cell_at d (place d i))) (get_or before i 0)) (h ∙ t)
+          ∙ ap (move_word (place b i)) (get_or-append cs (c ∷ []) 0 (place b i) low)))
           (λ (t : has_node b i ≡ false).
           ap (λ (u : Bool). cond u (move_word (place b i) (cell_at b (place b i))) (get_or before i 0)) t
           ∙ sym (ap (λ (u : Bool). cond u (move_word (place d i) (cell_at d (place d i))) (get_or before i 0)) (h ∙ t)))
@@ -134,7 +136,11 @@ moved-past start set before words n k m h =
 cells-step : (set n : ℕ) → length (filter (has_cell set) (range_with_len 0 n)) ≤ length
     (filter (has_cell set) (range_with_len 0 (suc n)))
 cells-step set n
-    = omega (arith, ap length (filter_more (has_cell set) 0 n n (zero-add n)), length-append (filter (has_cell set) (range_with_len 0 n)) (cond (has_cell set n) (n ∷ []) []))
+    = omega (
+      arith,
+      ap length (filter_more (has_cell set) 0 n n (zero-add n)),
+      length-append (filter (has_cell set) (range_with_len 0 n)) (cond (has_cell set n) (n ∷ []) []),
+    )
 
 -- of the first k cells there are no more than of all
 pub cells-fewer : (set k n : ℕ) → length (filter (has_cell set) (range_with_len 0 k)) ≤ length
@@ -163,4 +169,10 @@ few_places start set all k n before words m l h =
 pub moved-few : (start set : ℕ) (before words : List ℕ) (n k : ℕ)
     → Moved start set before words n k → n ≤ k
 moved-few start set before words n k m
-    = omega (arith, m.many, length-filter (has_cell set) (range_with_len 0 k), count_by-le-length (has_cell set) (range_with_len 0 k), length-range_with_len 0 k)
+    = omega (
+      arith,
+      m.many,
+      length-filter (has_cell set) (range_with_len 0 k),
+      count_by-le-length (has_cell set) (range_with_len 0 k),
+      length-range_with_len 0 k,
+    )

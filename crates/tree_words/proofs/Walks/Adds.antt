@@ -48,12 +48,14 @@ module _ {S O : Type 0} (g : Game S O) (fair : Fair g) (o : O) (p q p' q' : ℕ 
       → p' w ≡ plus (p w) (adds g p q o bs (child b j) s' w)
       = λ w u n. hp w u
       ∙ ap (plus (p w))
-      (ap (λ (f : S → ℕ → Count). f s w) (down-here (adds_leaf g p q o) (adds_inner g p q o) b bs x t) ∙ ap (λ (r : Bool). cond r (g.gain o s) (adds g p q o bs (child b j) s' w)) (ne_eqb x w n)) in
+      (ap (λ (f : S → ℕ → Count). f s w) (down-here (adds_leaf g p q o) (adds_inner g p q o) b bs x t)
+      ∙ ap (λ (r : Bool). cond r (g.gain o s) (adds g p q o bs (child b j) s' w)) (ne_eqb x w n)) in
       let qw : (w : ℕ) → top (b ∷ bs) w ≡ x → (w ≡ x → ⊥) → has_node b w ≡ false
       → q' w ≡ plus (q w) (sees g p q o bs (child b j) s' w)
       = λ w u n h. hq w u n
       ∙ ap (plus (q w))
-      (ap (λ (f : S → ℕ → Count). f s w) (down-here (sees_leaf g p q o) (sees_inner g p q o) b bs x t) ∙ ap (λ (r : Bool). cond r (g.glimpse o s (cell_at b (place b w))) (sees g p q o bs (child b j) s' w)) h) in
+      (ap (λ (f : S → ℕ → Count). f s w) (down-here (sees_leaf g p q o) (sees_inner g p q o) b bs x t)
+      ∙ ap (λ (r : Bool). cond r (g.glimpse o s (cell_at b (place b w))) (sees g p q o bs (child b j) s' w)) h) in
       let below : (y w : ℕ) → has_node b y ≡ true → top bs w ≡ y → (w ≡ y → ⊥)
       → has_node b w ≡ false
       = λ y w h u n. false_from_ne_true (has_node b w)
@@ -78,8 +80,10 @@ module _ {S O : Type 0} (g : Game S O) (fair : Fair g) (o : O) (p q p' q' : ℕ 
       let far : (w : ℕ) → top bs w ≡ y → top bs w ≡ child b j → ⊥
       = λ w u v. n (child-other b.start j k (sym is ∙ sym u ∙ v)) in
       same-under p q p' q' bs y (cell_at b k) (q' y) sp.1 (sp.0.apart y h)
-      (λ w u. off (p' w) (p w) _ (pw w (top-in b bs w y u h ∙ par) (under-not b bs x y w out h u)) (adds-off g fair p q o bs (child b j) w s' sp.1 (sp.0.apart (child b j) hj) (far w u)))
-      (λ w u m. off (q' w) (q w) _ (qw w (top-in b bs w y u h ∙ par) (λ z. under-not b bs x y w out h u (sym z)) (below y w h u m)) (sees-off g fair p q o bs (child b j) w s' sp.1 (sp.0.apart (child b j) hj) (far w u)))
+      (λ w u. off (p' w) (p w) _ (pw w (top-in b bs w y u h ∙ par) (under-not b bs x y w out h u))
+      (adds-off g fair p q o bs (child b j) w s' sp.1 (sp.0.apart (child b j) hj) (far w u)))
+      (λ w u m. off (q' w) (q w) _ (qw w (top-in b bs w y u h ∙ par) (λ z. under-not b bs x y w out h u (sym z)) (below y w h u m))
+      (sees-off g fair p q o bs (child b j) w s' sp.1 (sp.0.apart (child b j) hj) (far w u)))
       ∙ ap (tree_at p q bs y (cell_at b k)) (mine k y l is)
       ∙ sym (lit-tree p q bs y (cell_at b k) (q y) (g.glimpse o s (cell_at b k))) in
       -- the child that it enters
@@ -99,7 +103,8 @@ module _ {S O : Type 0} (g : Game S O) (fair : Fair g) (o : O) (p q p' q' : ℕ 
       = ap (g.choose (p x)) (sym (pairs-row p q bs (b.start + 4) b.cells)) in
       let tally : p' x ≡ plus (p x) (g.gain o s) = hp x (top-out (b ∷ bs) x out)
       ∙ ap (plus (p x))
-      (ap (λ (f : S → ℕ → Count). f s x) (down-here (adds_leaf g p q o) (adds_inner g p q o) b bs x t) ∙ ap (λ (r : Bool). cond r (g.gain o s) (adds g p q o bs (child b j) s' x)) (eq-eqb x x refl)) in
+      (ap (λ (f : S → ℕ → Count). f s x) (down-here (adds_leaf g p q o) (adds_inner g p q o) b bs x t)
+      ∙ ap (λ (r : Bool). cond r (g.gain o s) (adds g p q o bs (child b j) s' x)) (eq-eqb x x refl)) in
       let all : node c (p' x) e (row_of H (b.start + 4) b.cells) ≡ node c
       (plus (p x) (g.gain o s)) e
       (add_row g o (row_of F (b.start + 4) b.cells) (g.choose (p x) (pairs (row_of F (b.start + 4) b.cells))) s)
@@ -111,6 +116,7 @@ module _ {S O : Type 0} (g : Game S O) (fair : Fair g) (o : O) (p q p' q' : ℕ 
       ap (λ (f : ℕ → Count → Tree). f c e) (down-else (tree_leaf p') (tree_inner p' q') b bs x t)
       ∙ add-tree bs x c e s sp.1 out.1
       (λ w u. hp w (top-past b bs w x u out.0) ∙ ap (λ (f : S → ℕ → Count). plus (p w) (f s w)) (down-else (adds_leaf g p q o) (adds_inner g p q o) b bs x t))
-      (λ w u n. hq w (top-past b bs w x u out.0) n ∙ ap (λ (f : S → ℕ → Count). plus (q w) (f s w)) (down-else (sees_leaf g p q o) (sees_inner g p q o) b bs x t))
+      (λ w u n. hq w (top-past b bs w x u out.0) n ∙ ap (λ (f : S → ℕ
+      → Count). plus (q w) (f s w)) (down-else (sees_leaf g p q o) (sees_inner g p q o) b bs x t))
       ∙ sym (ap (λ (f : ℕ → Count → Tree). add g o (f c e) s) (down-else (tree_leaf p) (tree_inner p q) b bs x t)))
       (cases_Bool (b.parent == x))

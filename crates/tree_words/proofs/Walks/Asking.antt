@@ -40,7 +40,8 @@ spot-size s [] x = refl
 spot-size s (b ∷ bs) x =
     let A : NodeState = node_state s bs b.parent in
     ⊎_elim
-    (λ (h : has_node b x ≡ true). ap (λ (t : Bool). (cond t (state_after A (cell_at b (place b x))) (node_state s bs x)).board.size) h ∙ placed_size A.board A.player (cell_at b (place b x)) ∙ spot-size s bs b.parent)
+    (λ (h : has_node b x ≡ true). ap (λ (t : Bool). (cond t (state_after A (cell_at b (place b x))) (node_state s bs x)).board.size) h
+    ∙ placed_size A.board A.player (cell_at b (place b x)) ∙ spot-size s bs b.parent)
     (λ (h : has_node b x ≡ false). ap (λ (t : Bool). (cond t (state_after A (cell_at b (place b x))) (node_state s bs x)).board.size) h ∙ spot-size s bs x)
     (cases_Bool (has_node b x))
 

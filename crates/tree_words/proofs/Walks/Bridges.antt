@@ -186,7 +186,8 @@ module _ {S O : Type 0} (g : Game S O) (fair : Fair g) (p q : ℕ → Count) whe
       (λ (u : has_node b w ≡ true).
       let is : c ≡ b = own c b os w sp i h u in
       ⊎_elim
-      (λ (v : (y == w) ≡ true). sym (eqb-true y w v) ∙ ap (λ (z : ℕ). child b (pick g p q b z)) (sym (eqb-true b.parent x t)) ∙ ap (λ (d : LinkedBlock). child d (pick g p q d d.parent)) (sym is))
+      (λ (v : (y == w) ≡ true). sym (eqb-true y w v) ∙ ap (λ (z : ℕ). child b (pick g p q b z)) (sym (eqb-true b.parent x t))
+      ∙ ap (λ (d : LinkedBlock). child d (pick g p q d d.parent)) (sym is))
       (λ (v : (y == w) ≡ false).
       let unmet : F (leaf_at g p q os y) ≡ false
       = meets-none g fair p q test os (over (meets test) on b) y sp.1 (sp.0.apart y hy)
@@ -212,6 +213,7 @@ module _ {S O : Type 0} (g : Game S O) (fair : Fair g) (p q : ℕ → Count) whe
       (λ z k. subst (Out os) (sym (eqb-true z w k)) (sp.0.apart w u))
       (over-past (meets test) on b x out.0 ∙ a) in
       absurd (clash (F (leaf_at g p q os x)) met' unmet))
-      (λ (u : has_node b w ≡ false). on-picked os (over (meets test) on b) x w c sp.1 out.1 (over-past (meets test) on b x out.0 ∙ a) (older c b os w i h u) h met')
+      (λ (u : has_node b w ≡ false). on-picked os (over (meets test) on b) x w c sp.1 out.1 (over-past (meets test) on b x out.0
+      ∙ a) (older c b os w i h u) h met')
       (cases_Bool (has_node b w)))
       (cases_Bool (b.parent == x))

@@ -71,7 +71,8 @@ path-meets test r (b ∷ bs) y = by (has_node b y) (path-meets test r bs b.paren
         → list_any test (up (r ∷ []) (λ b z rest. z ∷ rest) bs y) ≡ up (test r || false)
         (meets test) bs y
         → list_any test
-        (cond t (y ∷ up (r ∷ []) (λ b z rest. z ∷ rest) bs b.parent) (up (r ∷ []) (λ b z rest. z ∷ rest) bs y)) ≡ cond t (test y || up (test r || false) (meets test) bs b.parent) (up (test r || false) (meets test) bs y)
+        (cond t (y ∷ up (r ∷ []) (λ b z rest. z ∷ rest) bs b.parent) (up (r ∷ []) (λ b z rest. z ∷ rest) bs y))
+        ≡ cond t (test y || up (test r || false) (meets test) bs b.parent) (up (test r || false) (meets test) bs y)
     by true e f = ap (λ (u : Bool). test y || u) e
     by false e f = f
 
@@ -126,7 +127,8 @@ module _ {S O : Type 0} (g : Game S O) (fair : Fair g) (p q : ℕ → Count) whe
       (λ (u : test y ≡ false). u) (cases_Bool (test y)) in
       meets-none test os (over (meets test) on b) y sp.1 (sp.0.apart y h) (λ z u. (no-one z u).1)
       (over-in (meets test) on b x y h (eqb-true b.parent x t) ∙ or_from (test y) (on x) n e))
-      (λ (t : (b.parent == x) ≡ false). meets-none test os (over (meets test) on b) x sp.1 out.1 (λ z u. (no-one z u).1) (over-past (meets test) on b x out.0 ∙ e))
+      (λ (t : (b.parent == x) ≡ false). meets-none test os (over (meets test) on b) x sp.1 out.1 (λ z u. (no-one z u).1) (over-past (meets test) on b x out.0
+      ∙ e))
 
   -- the state at the leaf is what is gathered up
   pub state-up : (os : List LinkedBlock) (root : ℕ → S) (x : ℕ) (s : S) → Sprouts os → Out os x

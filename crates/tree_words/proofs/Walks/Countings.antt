@@ -100,7 +100,8 @@ module _ (s : Setting) (p q : ℕ → Count) (o : Ending) where
   adds-one (b ∷ os) x u w
       = down-split (adds_leaf (search_game s) p q o) (adds_inner (search_game s) p q o)
       (λ (f : NodeState → ℕ → Count). AtMost 1 (f u w)) b os x
-      (λ t. at-most-if (x == w) (gain_of o u) _ (gain-one o u) (adds-one os (child b (pick (search_game s) p q b x)) (state_after u (cell_at b (pick (search_game s) p q b x))) w))
+      (λ t. at-most-if (x == w) (gain_of o u) _ (gain-one o u)
+      (adds-one os (child b (pick (search_game s) p q b x)) (state_after u (cell_at b (pick (search_game s) p q b x))) w))
       (λ t. adds-one os x u w)
 
   pub sees-one : (os : List LinkedBlock) (x : ℕ) (u : NodeState) (w : ℕ)
@@ -109,7 +110,8 @@ module _ (s : Setting) (p q : ℕ → Count) (o : Ending) where
   sees-one (b ∷ os) x u w
       = down-split (sees_leaf (search_game s) p q o) (sees_inner (search_game s) p q o)
       (λ (f : NodeState → ℕ → Count). AtMost 1 (f u w)) b os x
-      (λ t. at-most-if (has_node b w) (glimpse_of o u (cell_at b (place b w))) _ (glimpse-one o u (cell_at b (place b w))) (sees-one os (child b (pick (search_game s) p q b x)) (state_after u (cell_at b (pick (search_game s) p q b x))) w))
+      (λ t. at-most-if (has_node b w) (glimpse_of o u (cell_at b (place b w))) _ (glimpse-one o u (cell_at b (place b w)))
+      (sees-one os (child b (pick (search_game s) p q b x)) (state_after u (cell_at b (pick (search_game s) p q b x))) w))
       (λ t. sees-one os x u w)
 
   -- what lies before x gets nothing from the way below x

@@ -130,7 +130,8 @@ module _ {S O : Type 0} (g : Game S O) (o : O) where
 
   pub row-add : (s : S) (f h : ℕ → ℕ → Tree) (a : ℕ) (cs : List ℕ) (j : ℕ)
       → ((k y : ℕ) → k < length cs → y ≡ a + 4 * k → (k ≡ j → ⊥) → h y (get_or cs k 0) ≡ lit (g.glimpse o s (get_or cs k 0)) (f y (get_or cs k 0)))
-      → ((y : ℕ) → j < length cs → y ≡ a + 4 * j → h y (get_or cs j 0) ≡ lit (g.glimpse o s (get_or cs j 0)) (add g o (f y (get_or cs j 0)) (g.next s (get_or cs j 0))))
+      → ((y : ℕ) → j < length cs → y ≡ a + 4 * j → h y (get_or cs j 0)
+      ≡ lit (g.glimpse o s (get_or cs j 0)) (add g o (f y (get_or cs j 0)) (g.next s (get_or cs j 0))))
       → ((y d : ℕ) → node_cell (f y d) ≡ d) → row_of h a cs ≡ add_row g o (row_of f a cs) j s
   row-add s f h a [] j e one cell = refl
   row-add s f h a (c ∷ cs) zero e one cell =

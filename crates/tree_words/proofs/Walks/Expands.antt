@@ -169,7 +169,8 @@ module _ {S O : Type 0} (g : Game S O) (fair : Fair g) (p q : ℕ → Count) whe
       let one : (y : ℕ) → j < length b.cells → y ≡ b.start + 4 + 4 * j
       → H y (cell_at b j) ≡ expand g m (F y (cell_at b j)) (g.next s (cell_at b j))
       = λ y l is. subst (λ (z : ℕ). H z (cell_at b j) ≡ expand g m (F z (cell_at b j)) s') (sym is)
-      (expand-tree m n bs (child b j) (cell_at b j) (q (child b j)) s' sp.1 (sp.0.apart (child b j) hj) (at ∙ lf) (cells ∙ ap (λ (u : Count × S). g.cells u.1) st)
+      (expand-tree m n bs (child b j) (cell_at b j) (q (child b j)) s' sp.1 (sp.0.apart (child b j) hj) (at ∙ lf) (cells
+      ∙ ap (λ (u : Count × S). g.cells u.1) st)
       (sym (ap (λ (u : Count × S). g.wide m u.0 u.1) st) ∙ wide) zeros) in
       let rows : row_of H (b.start + 4) b.cells ≡ expand_row g m
       (row_of F (b.start + 4) b.cells) j s

@@ -67,7 +67,9 @@ pub node-top : (r : ℕ) (bs : List LinkedBlock) (w : ℕ) → InOrder r bs → 
 node-top r [] w g n = eqb-true w r n
 node-top r (b ∷ bs) w g n = top-snoc b (oldest_first bs) w ∙ ⊎_elim
     (λ (h : has_node b w ≡ true). ap (λ (t : Bool). top (oldest_first bs) (cond t b.parent w)) h ∙ node-top r bs b.parent g.1 g.0.parent)
-    (λ (h : has_node b w ≡ false). ap (λ (t : Bool). top (oldest_first bs) (cond t b.parent w)) h ∙ node-top r bs w g.1 (⊎_elim (λ (u : has_node b w ≡ true). absurd (clash (has_node b w) u h)) (λ (u : is_node r bs w ≡ true). u) (or_cases (has_node b w) (is_node r bs w) n)))
+    (λ (h : has_node b w ≡ false). ap (λ (t : Bool). top (oldest_first bs) (cond t b.parent w)) h
+    ∙ node-top r bs w g.1 (⊎_elim (λ (u : has_node b w ≡ true). absurd (clash (has_node b w) u h)) (λ (u : is_node r bs w
+    ≡ true). u) (or_cases (has_node b w) (is_node r bs w) n)))
     (cases_Bool (has_node b w))
 
 inside-out : (os : List LinkedBlock) (x : ℕ) → Inside os x → Out os x → ⊥
@@ -88,7 +90,8 @@ module _ {S O : Type 0} (g : Game S O) (fair : Fair g) (p q : ℕ → Count) whe
       = child-has b (pick g p q b x) (pick-in g fair p q b x sp.0.some) in
       ⊎_elim (λ (e : leaf_at g p q os y ≡ y). inr (inl (ap (has_node b) e ∙ h)))
       (λ (i : Inside os (leaf_at g p q os y)). inr (inr i)) (leaf-stays os y sp.1))
-      (λ (t : (b.parent == x) ≡ false). ⊎_elim (λ (e : leaf_at g p q os x ≡ x). inl e) (λ (i : Inside os (leaf_at g p q os x)). inr (inr i)) (leaf-stays os x sp.1))
+      (λ (t : (b.parent == x) ≡ false). ⊎_elim (λ (e : leaf_at g p q os x
+      ≡ x). inl e) (λ (i : Inside os (leaf_at g p q os x)). inr (inr i)) (leaf-stays os x sp.1))
 
   -- and leaves a node that has a block
   leaf-inside : (os : List LinkedBlock) (x : ℕ) (c : LinkedBlock) → Sprouts os → Names os x c
@@ -103,7 +106,8 @@ module _ {S O : Type 0} (g : Game S O) (fair : Fair g) (p q : ℕ → Count) whe
       = child-has b (pick g p q b x) (pick-in g fair p q b x sp.0.some) in
       subst (Inside (b ∷ os)) (sym (down-here (λ (y : ℕ). y) (leaf_inner g p q) b os x t))
       (⊎_elim (λ (e : leaf_at g p q os y ≡ y). inl (ap (has_node b) e ∙ h)) (λ (i : Inside os (leaf_at g p q os y)). inr i) (leaf-stays os y sp.1)))
-      (λ (e : ((b.parent == x) ≡ false) × Names os x c). subst (Inside (b ∷ os)) (sym (down-else (λ (y : ℕ). y) (leaf_inner g p q) b os x e.0)) (inr (leaf-inside os x c sp.1 e.1)))
+      (λ (e : ((b.parent == x) ≡ false) × Names os x c). subst (Inside (b
+      ∷ os)) (sym (down-else (λ (y : ℕ). y) (leaf_inner g p q) b os x e.0)) (inr (leaf-inside os x c sp.1 e.1)))
       n
 
   -- the leaf is a node of a block, if the root has one

@@ -67,7 +67,8 @@ module _ (s : Setting) (bs : List LinkedBlock) (words after : List ℕ) (k : ℕ
         (λ j. is_on s bs x (leaf_of words j))
         (λ j l. ap (λ (n : ℕ). is_on s bs x (leaf_in n)) (same j l)) i;
     wins = count-same k
-        (λ j. is_on s bs x (leaf_of after j) && is_same (outcome_in s bs after j).winner (mover_of s bs x)) (λ j. is_on s bs x (leaf_of words j) && is_same (outcome_in s bs words j).winner (mover_of s bs x))
+        (λ j. is_on s bs x (leaf_of after j) && is_same (outcome_in s bs after j).winner (mover_of s bs x)) (λ j. is_on s bs x (leaf_of words j)
+        && is_same (outcome_in s bs words j).winner (mover_of s bs x))
         (λ j l. ap (λ (n : ℕ). is_on s bs x (leaf_in n) && is_same (outcome_of s j (node_state s bs (leaf_in n))).winner (mover_of s bs x)) (same j l)) i;
   }
 
@@ -75,10 +76,13 @@ module _ (s : Setting) (bs : List LinkedBlock) (words after : List ℕ) (k : ℕ
       → sights_at s bs after k b y ≡ sights_at s bs words k b y
   sights-words b y = λ i. record {
     visits = count-same k (λ j. is_seen s bs after b y j) (λ j. is_seen s bs words b y j)
-        (λ j l. ap (λ (n : ℕ). enters s bs b (leaf_in n) && has_cell (stones_of (outcome_of s j (node_state s bs (leaf_in n))).full (mover_of s bs y)) (cell_at b (place b y))) (same j l)) i;
+        (λ j l. ap (λ (n : ℕ). enters s bs b (leaf_in n) && has_cell (stones_of (outcome_of s j (node_state s bs (leaf_in n))).full (mover_of s bs y))
+        (cell_at b (place b y))) (same j l)) i;
     wins = count-same k
-        (λ j. is_seen s bs after b y j && is_same (outcome_in s bs after j).winner (mover_of s bs y)) (λ j. is_seen s bs words b y j && is_same (outcome_in s bs words j).winner (mover_of s bs y))
-        (λ j l. ap (λ (n : ℕ). (enters s bs b (leaf_in n) && has_cell (stones_of (outcome_of s j (node_state s bs (leaf_in n))).full (mover_of s bs y)) (cell_at b (place b y)))
+        (λ j. is_seen s bs after b y j && is_same (outcome_in s bs after j).winner (mover_of s bs y)) (λ j. is_seen s bs words b y j
+        && is_same (outcome_in s bs words j).winner (mover_of s bs y))
+        (λ j l. ap (λ (n : ℕ). (enters s bs b (leaf_in n) && has_cell (stones_of (outcome_of s j (node_state s bs (leaf_in n))).full (mover_of s bs y))
+        (cell_at b (place b y)))
         && is_same (outcome_of s j (node_state s bs (leaf_in n))).winner
         (mover_of s bs y)) (same j l)) i;
   }
@@ -106,7 +110,9 @@ meets-clear test r start (b ∷ bs) y e h =
     = λ z n. h z (or_right (has_node b z) (is_node r bs z) n) in
     let above : Bool = test y || up start (meets test) bs b.parent in
     ⊎_elim
-    (λ (u : has_node b y ≡ true). ap (λ (t : Bool). cond t above (up start (meets test) bs y)) u ∙ or_from (test y) (up start (meets test) bs b.parent) (h y (or_left (has_node b y) (is_node r bs y) u)) (meets-clear test r start bs b.parent e older))
+    (λ (u : has_node b y ≡ true). ap (λ (t : Bool). cond t above (up start (meets test) bs y)) u
+    ∙ or_from (test y) (up start (meets test) bs b.parent) (h y (or_left (has_node b y) (is_node r bs y) u))
+    (meets-clear test r start bs b.parent e older))
     (λ (u : has_node b y ≡ false). ap (λ (t : Bool). cond t above (up start (meets test) bs y)) u ∙ meets-clear test r start bs y e older)
     (cases_Bool (has_node b y))
 
@@ -156,7 +162,8 @@ module _ (s : Setting) (n : LinkedBlock) (bs : List LinkedBlock)
           visits = count-same k (λ j. is_on s (n ∷ bs) x (leaf_of words j))
               (λ j. is_on s bs x (leaf_of words j)) on i;
           wins = count-same k
-              (λ j. is_on s (n ∷ bs) x (leaf_of words j) && is_same (outcome_in s (n ∷ bs) words j).winner (mover_of s (n ∷ bs) x)) (λ j. is_on s bs x (leaf_of words j) && is_same (outcome_in s bs words j).winner (mover_of s bs x))
+              (λ j. is_on s (n ∷ bs) x (leaf_of words j) && is_same (outcome_in s (n ∷ bs) words j).winner (mover_of s (n
+              ∷ bs) x)) (λ j. is_on s bs x (leaf_of words j) && is_same (outcome_in s bs words j).winner (mover_of s bs x))
               (λ j l t. on j l t && is_same (outcome-same j l t).winner (mover t)) i;
         }
 
@@ -172,7 +179,8 @@ module _ (s : Setting) (n : LinkedBlock) (bs : List LinkedBlock)
           visits = count-same k (λ j. is_seen s (n ∷ bs) words b y j)
               (λ j. is_seen s bs words b y j) seen i;
           wins = count-same k
-              (λ j. is_seen s (n ∷ bs) words b y j && is_same (outcome_in s (n ∷ bs) words j).winner (mover_of s (n ∷ bs) y)) (λ j. is_seen s bs words b y j && is_same (outcome_in s bs words j).winner (mover_of s bs y))
+              (λ j. is_seen s (n ∷ bs) words b y j && is_same (outcome_in s (n ∷ bs) words j).winner (mover_of s (n ∷ bs) y)) (λ j. is_seen s bs words b y j
+              && is_same (outcome_in s bs words j).winner (mover_of s bs y))
               (λ j l t. seen j l t && is_same (outcome-same j l t).winner (mover t)) i;
         }
 
@@ -192,7 +200,8 @@ module _ (s : Setting) (n : LinkedBlock) (bs : List LinkedBlock)
     sights-new y =
         let seen : (j : ℕ) → j < k → is_seen s (n ∷ bs) words n y j ≡ false
         = λ j l. and_left (enters s (n ∷ bs) n (leaf_of words j))
-        (has_cell (stones_of (outcome_in s (n ∷ bs) words j).full (mover_of s (n ∷ bs) y)) (cell_at n (place n y))) (enters-not (leaf_of words j) (leaves j l)) in
+        (has_cell (stones_of (outcome_in s (n ∷ bs) words j).full (mover_of s (n ∷ bs) y)) (cell_at n (place n y)))
+        (enters-not (leaf_of words j) (leaves j l)) in
         λ i. record {
           visits = count-none k (λ j. is_seen s (n ∷ bs) words n y j) seen i;
           wins = count-none k
@@ -204,7 +213,8 @@ module _ (s : Setting) (n : LinkedBlock) (bs : List LinkedBlock)
     pub ends-new : (x : ℕ) → has_node n x ≡ true → ends_at words k x ≡ 0
     ends-new x h
         = count-none k (λ j. leaf_of words j == x)
-        (λ j l. false_from_ne_true (leaf_of words j == x) (λ e. clash (has_node n x) h (ap (has_node n) (sym (eqb-true (leaf_of words j) x e)) ∙ apart (root_at s) n bs (leaf_of words j) f (leaves j l))))
+        (λ j l. false_from_ne_true (leaf_of words j == x) (λ e. clash (has_node n x) h (ap (has_node n) (sym (eqb-true (leaf_of words j) x e))
+        ∙ apart (root_at s) n bs (leaf_of words j) f (leaves j l))))
 
   pub record-block : (words : List ℕ) (j : ℕ) → IsRecord s bs words j → IsRecord s (n ∷ bs) words j
   record-block words j is = record {
@@ -253,7 +263,9 @@ module _ (s : Setting) (bs : List LinkedBlock) (words : List ℕ) (k : ℕ) wher
       more_sights (enters s bs b (leaf_of words k))
       (has_cell (stones_of o.full (mover_of s bs y)) (cell_at b (place b y)))
       (is_same o.winner (mover_of s bs y)) (sights_at s bs words k b y)
-      ∙ ap (λ (c : Colour). plus (sights_at s bs words k b y) (cond (enters s bs b (leaf_of words k)) (cond (has_cell (stones_of o.full c) (cell_at b (place b y))) (one (is_same o.winner c)) nothing) nothing)) mover
+      ∙ ap (λ (c : Colour). plus (sights_at s bs words k b y)
+      (cond (enters s bs b (leaf_of words k)) (cond (has_cell (stones_of o.full c) (cell_at b (place b y))) (one (is_same o.winner c)) nothing) nothing))
+      mover
 
 -- a leaf is on its own path
 pub on-itself : (s : Setting) (bs : List LinkedBlock) (x : ℕ) → is_node (root_at s) bs x ≡ true
@@ -265,11 +277,14 @@ on-itself s bs x h = path-meets (λ (z : ℕ). z == x) (root_at s) bs x ∙ here
     here [] n = or_left (root_at s == x) false
         (eq-eqb (root_at s) x (sym (eqb-true x (root_at s) n)))
     here (b ∷ cs) n = ⊎_elim
-        (λ (u : has_node b x ≡ true). ap (λ (t : Bool). cond t ((x == x) || up ((root_at s == x) || false) (meets (λ (z : ℕ). z == x)) cs b.parent) (up ((root_at s == x) || false) (meets (λ (z : ℕ). z == x)) cs x)) u
+        (λ (u : has_node b x ≡ true). ap (λ (t : Bool). cond t ((x == x)
+        || up ((root_at s == x) || false) (meets (λ (z : ℕ). z == x)) cs b.parent) (up ((root_at s == x) || false) (meets (λ (z : ℕ). z == x)) cs x)) u
         ∙ or_left (x == x) (up ((root_at s == x) || false) (meets (λ (z : ℕ). z == x)) cs b.parent)
         (eq-eqb x x refl))
-        (λ (u : has_node b x ≡ false). ap (λ (t : Bool). cond t ((x == x) || up ((root_at s == x) || false) (meets (λ (z : ℕ). z == x)) cs b.parent) (up ((root_at s == x) || false) (meets (λ (z : ℕ). z == x)) cs x)) u
-        ∙ here cs (⊎_elim (λ (v : has_node b x ≡ true). absurd (clash (has_node b x) v u)) (λ (v : is_node (root_at s) cs x ≡ true). v) (or_cases (has_node b x) (is_node (root_at s) cs x) n)))
+        (λ (u : has_node b x ≡ false). ap (λ (t : Bool). cond t ((x == x)
+        || up ((root_at s == x) || false) (meets (λ (z : ℕ). z == x)) cs b.parent) (up ((root_at s == x) || false) (meets (λ (z : ℕ). z == x)) cs x)) u
+        ∙ here cs (⊎_elim (λ (v : has_node b x ≡ true). absurd (clash (has_node b x) v u)) (λ (v : is_node (root_at s) cs x
+        ≡ true). v) (or_cases (has_node b x) (is_node (root_at s) cs x) n)))
         (cases_Bool (has_node b x))
 
 -- a node is on the paths of at least the playouts whose leaf it is

@@ -46,8 +46,10 @@ ends-snoc m n (b ∷ bs) e l = (e.0, ends-snoc m n bs e.1 l)
 pub sprouts-snoc : (n : LinkedBlock) (bs : List LinkedBlock) → Sprouts bs → EndsBy n.start bs
     → 0 < length n.cells → Sprouts (bs ++ n ∷ [])
 sprouts-snoc n [] sp e l = (record { apart = λ x h. tt; some = l }, tt)
-sprouts-snoc n (b ∷ bs) sp e l =
-    (record { apart = λ x h. out-snoc n bs x (sp.0.apart x h) (no-has n x (let u = has-below b x h in omega (arith, e.0, u.1))); some = sp.0.some }, sprouts-snoc n bs sp.1 e.1 l)
+sprouts-snoc n (b ∷ bs) sp e l = (
+  record { apart = λ x h. out-snoc n bs x (sp.0.apart x h) (no-has n x (let u = has-below b x h in omega (arith, e.0, u.1))); some = sp.0.some },
+  sprouts-snoc n bs sp.1 e.1 l,
+)
 
 module _ {S O : Type 0} (g : Game S O) (fair : Fair g) (p q : ℕ → Count) where
   -- if the leaf is not wide, the tree stays

@@ -9,13 +9,17 @@ pub loop-width-preserved-then-half-at : goal.loop-width-preserved-then-half-at
 loop-width-preserved-then-half-at c =
     let i = c.loop-width.invariant in
     among_upper c.args.half c.args.k c.loop-width.at c.loop-width.width i c.loop-width-test.true
-    (subst (λ v. v ≤ c.args.k) (ranked_in c.args.half (c.loop-width.at + c.loop-width.width / 2) (omega (arith, i.on, c.loop-width-test.true))) c.if-half-at.true)
+    (subst (λ v. v ≤ c.args.k) (ranked_in c.args.half (c.loop-width.at
+    + c.loop-width.width / 2) (omega (arith, i.on, c.loop-width-test.true))) c.if-half-at.true)
 
 pub loop-width-preserved : goal.loop-width-preserved
 loop-width-preserved c =
     let i = c.loop-width.invariant in
     among_lower c.args.half c.args.k c.loop-width.at c.loop-width.width i c.loop-width-test.true
-    (subst (λ v. c.args.k < v) (ranked_in c.args.half (c.loop-width.at + c.loop-width.width / 2) (omega (arith, i.on, c.loop-width-test.true))) (omega (arith, c.if-half-at.false)))
+    (subst (λ v. c.args.k < v) (ranked_in c.args.half (c.loop-width.at + c.loop-width.width / 2) (omega (arith, i.on, c.loop-width-test.true))) (omega (
+      arith,
+      c.if-half-at.false,
+    )))
 
 pub returns-clause-inside : goal.returns-clause-inside
 returns-clause-inside c

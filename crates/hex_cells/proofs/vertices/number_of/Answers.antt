@@ -19,5 +19,6 @@ returns-in_err-second c
     (λ m. no_second c.args.digits.now m c.if-digits-eq1.false c.in_err-second.ensures)
 
 pub returns : goal.returns
-returns c = some_two c.args.digits.now c.in_ok-first.first c.in_ok-second.second (omega arith) c.in_ok-first.ensures.0 c.in_ok-first.ensures.1 c.in_ok-second.ensures.1
+returns c = some_two c.args.digits.now c.in_ok-first.first c.in_ok-second.second (omega arith) c.in_ok-first.ensures.0 c.in_ok-first.ensures.1
+    c.in_ok-second.ensures.1
     c.in_ok-first.ensures.2 c.in_ok-second.ensures.2

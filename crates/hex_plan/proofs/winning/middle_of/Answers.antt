@@ -29,7 +29,8 @@ unreachable-requires c =
 
 pub returns : goal.returns
 returns c = λ a at.
-    read_middle c.args.store.now c.elements.result.now a c.in-AndEmpty.i c.in-AndEmpty.j c.shared-middle.result c.unwrap.result c.cell.result c.elements.ensures
+    read_middle c.args.store.now c.elements.result.now a c.in-AndEmpty.i c.in-AndEmpty.j c.shared-middle.result c.unwrap.result c.cell.result
+    c.elements.ensures
     (is_read c.args.store.now c.entries-entries.result.now c.args.number a _ c.index-entries-i.result
     c.index-entries-j.result c.in-AndEmpty.i c.in-AndEmpty.j c.shared-middle.result
     c.entries-entries.ensures.sound c.entries-entries.ensures.value at c.in-AndEmpty.is c.index-entries-i.is c.index-entries-j.is c.shared-middle.ensures)

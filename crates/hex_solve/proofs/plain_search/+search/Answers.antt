@@ -21,8 +21,10 @@ use Rattle.hex_solve.proofs.plain_search.+search.Goals as goal
 
 pub moves-cells-init : goal.moves-cells-init
 moves-cells-init t c = record {
-  trying = subst (λ (xs : List ℕ). IsTrying c.args.board.now c.args.mover c.args.own.now c.args.other.now c.args.other.now c.args.left.now c.args.left.now xs c.empties-cells.result) (sym c.new-cases.ensures.items)
-      (trying_begun c.args.board.now c.args.mover c.args.own.now c.args.other.now c.args.left.now c.empties-cells.result c.requires.room.0 c.requires.searched c.requires.apart c.requires.room.1 c.empties-cells.ensures);
+  trying = subst (λ (xs : List ℕ). IsTrying c.args.board.now c.args.mover c.args.own.now c.args.other.now c.args.other.now c.args.left.now c.args.left.now xs
+      c.empties-cells.result) (sym c.new-cases.ensures.items)
+      (trying_begun c.args.board.now c.args.mover c.args.own.now c.args.other.now c.args.left.now c.empties-cells.result c.requires.room.0 c.requires.searched
+      c.requires.apart c.requires.room.1 c.empties-cells.ensures);
   same = refl;
 }
 
@@ -44,14 +46,18 @@ moves-position-requires t c =
 
 pub moves-returns-in-Err : goal.moves-returns-in-Err
 moves-returns-in-Err t c
-    = stop_on c.args.board.now c.place.new.self c.args.mover c.other.result c.cells.own c.args.other.now c.cells.other c.args.left.now c.cells.left c.cells.cases.items c.cells.cells c.in-Some.cell c.in-Err.stop
+    = stop_on c.args.board.now c.place.new.self c.args.mover c.other.result c.cells.own c.args.other.now c.cells.other c.args.left.now c.cells.left
+    c.cells.cases.items c.cells.cells c.in-Some.cell c.in-Err.stop
     c.cells.invariant.trying c.in-Some.ensures.0 c.in-Some.ensures.1 c.place.ensures c.other.ensures c.in-Err.ensures
 
 pub moves-returns-then-not-found : goal.moves-returns-then-not-found
 moves-returns-then-not-found t c
-    = mover_wins c.args.board.now c.args.mover c.args.own.now c.cells.own c.args.other.now c.cells.other c.position.new.other c.position.new.own c.add_move.new.self c.back.new.self c.args.left.now c.cells.left c.position.new.left
-    c.cells.cases.items c.cells.cells c.in-Some.cell c.in-Ok.found.line c.in-Ok-add_move.line c.mark-mark.result c.cells.invariant.trying c.cells.invariant.same c.requires.apart c.in-Some.ensures.0 c.in-Some.ensures.1 c.mark-mark.ensures.kept c.mark-mark.ensures.value
-    (child_is c.args.board.now c.place.new.self c.args.mover c.other.result c.in-Some.cell c.cells.left c.position.new.left _ _ c.in-Ok.found false c.place.ensures c.other.ensures (not-true c.in-Ok.found.by_mover c.if-not-found.true) c.in-Ok.ensures)
+    = mover_wins c.args.board.now c.args.mover c.args.own.now c.cells.own c.args.other.now c.cells.other c.position.new.other c.position.new.own
+    c.add_move.new.self c.back.new.self c.args.left.now c.cells.left c.position.new.left
+    c.cells.cases.items c.cells.cells c.in-Some.cell c.in-Ok.found.line c.in-Ok-add_move.line c.mark-mark.result c.cells.invariant.trying
+    c.cells.invariant.same c.requires.apart c.in-Some.ensures.0 c.in-Some.ensures.1 c.mark-mark.ensures.kept c.mark-mark.ensures.value
+    (child_is c.args.board.now c.place.new.self c.args.mover c.other.result c.in-Some.cell c.cells.left c.position.new.left _ _ c.in-Ok.found false
+    c.place.ensures c.other.ensures (not-true c.in-Ok.found.by_mover c.if-not-found.true) c.in-Ok.ensures)
     c.in-Ok-add_move.ensures.grows c.in-Ok-add_move.ensures.counts c.in-Ok-add_move.ensures.shows c.back.ensures
 
 pub moves-cells-preserved : goal.moves-cells-preserved
@@ -59,16 +65,21 @@ moves-cells-preserved t c =
     let l : c.in-Some.cell < 121
     = cell_below c.cells.cells 121 c.in-Some.cell
     (subst (λ v. v < 2 ^ 121) c.bits-bits.ensures.value c.bits-bits.ensures.range) c.in-Some.ensures.0 in
-    let r = stone_answered c.args.board.now c.args.mover c.cells.own c.args.own.now c.args.other.now c.cells.other c.position.new.other c.position.new.own c.args.left.now c.cells.left c.position.new.left
-    c.cells.cases.items c.push.new.self.items c.cells.cells c.without-cells.result c.in-Some.cell c.in-Ok.found.line c.cells.invariant.trying c.cells.invariant.same c.in-Some.ensures.0 c.in-Some.ensures.1 l
-    (child_is c.args.board.now c.place.new.self c.args.mover c.other.result c.in-Some.cell c.cells.left c.position.new.left _ _ c.in-Ok.found true c.place.ensures c.other.ensures (not-false c.in-Ok.found.by_mover c.if-not-found.false) c.in-Ok.ensures)
+    let r = stone_answered c.args.board.now c.args.mover c.cells.own c.args.own.now c.args.other.now c.cells.other c.position.new.other c.position.new.own
+    c.args.left.now c.cells.left c.position.new.left
+    c.cells.cases.items c.push.new.self.items c.cells.cells c.without-cells.result c.in-Some.cell c.in-Ok.found.line c.cells.invariant.trying
+    c.cells.invariant.same c.in-Some.ensures.0 c.in-Some.ensures.1 l
+    (child_is c.args.board.now c.place.new.self c.args.mover c.other.result c.in-Some.cell c.cells.left c.position.new.left _ _ c.in-Ok.found true
+    c.place.ensures c.other.ensures (not-false c.in-Ok.found.by_mover c.if-not-found.false) c.in-Ok.ensures)
     c.in-Ok-push.ensures.items c.without-cells.ensures.value in
     record { trying = r.0; same = r.1 }
 
 pub moves-returns : goal.moves-returns
 moves-returns t c
-    = other_wins_all c.args.board.now c.args.mover c.cells.own c.args.own.now c.args.other.now c.cells.other c.add_cases.new.self c.args.left.now c.cells.left c.cells.cases.items c.cells.cells c.requires.room.0 c.in-Ok-add_cases.line
-    c.cells.invariant.trying c.cells.invariant.same c.requires.apart c.requires.room.1 c.in_default.ensures c.in-Ok-add_cases.ensures.grows c.in-Ok-add_cases.ensures.counts c.in-Ok-add_cases.ensures.shows
+    = other_wins_all c.args.board.now c.args.mover c.cells.own c.args.own.now c.args.other.now c.cells.other c.add_cases.new.self c.args.left.now c.cells.left
+    c.cells.cases.items c.cells.cells c.requires.room.0 c.in-Ok-add_cases.line
+    c.cells.invariant.trying c.cells.invariant.same c.requires.apart c.requires.room.1 c.in_default.ensures c.in-Ok-add_cases.ensures.grows
+    c.in-Ok-add_cases.ensures.counts c.in-Ok-add_cases.ensures.shows
 
 pub position-returns-then-joined : goal.position-returns-then-joined
 position-returns-then-joined t c =

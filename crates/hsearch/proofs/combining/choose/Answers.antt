@@ -25,9 +25,11 @@ seconds-preserved c = elim c.if-is_marked.branch [
     grown = subst (λ (v : StoreData). Extends c.args.store.now v) (sym w.store-is)
         (grown_on _ _ _ c.seconds.invariant.grown w.choose_at.ensures.extends);
     chosen = subst (λ (v : StoreData). AreChosen v c.args.taken.now c.args.number c.held-held.result (c.seconds.place + 1)) (sym w.store-is)
-        (chosen_more c.seconds.store w.choose_at.new.store c.args.taken.now c.args.number c.held-held.result c.seconds.place c.seconds.invariant.chosen w.choose_at.ensures.extends
+        (chosen_more c.seconds.store w.choose_at.new.store c.args.taken.now c.args.number c.held-held.result c.seconds.place c.seconds.invariant.chosen
+        w.choose_at.ensures.extends
         (number_grown _ _ _ c.seconds.invariant.grown c.requires.number)
-        (λ p l. within_grown _ _ _ _ _ c.held-held.result p c.held-held.ensures.numbers c.seconds.invariant.grown l) (omega arith) w.choose_at.ensures.two w.choose_at.ensures.threes);
+        (λ p l. within_grown _ _ _ _ _ c.held-held.result p c.held-held.ensures.numbers c.seconds.invariant.grown l) (omega arith) w.choose_at.ensures.two
+        w.choose_at.ensures.threes);
   }
   | else-is_marked w ↦ record {
     grown = subst (λ (v : StoreData). Extends c.args.store.now v)
@@ -41,11 +43,21 @@ seconds-preserved c = elim c.if-is_marked.branch [
 pub returns-clause-twos : goal.returns-clause-twos
 returns-clause-twos c =
     let done : AreChosen c.seconds.store c.args.taken.now c.args.number c.held-held.result c.held-held.result.count =
-    record { twos = λ p l m. c.seconds.invariant.chosen.twos p (omega arith) m; threes = λ p q l m i j. c.seconds.invariant.chosen.threes p q (omega arith) m i j } in
-    chosen_two c.args.store.now c.seconds.store c.args.taken.now c.args.number c.args.x c.args.y c.held-held.result c.held-held.ensures.numbers c.seconds.invariant.grown c.requires.number c.requires.pair done
+    record {
+      twos = λ p l m. c.seconds.invariant.chosen.twos p (omega arith) m;
+      threes =
+          λ p q l m i j. c.seconds.invariant.chosen.threes p q (omega arith) m i j;
+    } in
+    chosen_two c.args.store.now c.seconds.store c.args.taken.now c.args.number c.args.x c.args.y c.held-held.result c.held-held.ensures.numbers
+    c.seconds.invariant.grown c.requires.number c.requires.pair done
 
 pub returns-clause-threes : goal.returns-clause-threes
 returns-clause-threes c =
     let done : AreChosen c.seconds.store c.args.taken.now c.args.number c.held-held.result c.held-held.result.count =
-    record { twos = λ p l m. c.seconds.invariant.chosen.twos p (omega arith) m; threes = λ p q l m i j. c.seconds.invariant.chosen.threes p q (omega arith) m i j } in
-    chosen_three c.args.store.now c.seconds.store c.args.taken.now c.args.number c.args.x c.args.y c.held-held.result c.held-held.ensures.numbers c.seconds.invariant.grown c.requires.number c.requires.pair done
+    record {
+      twos = λ p l m. c.seconds.invariant.chosen.twos p (omega arith) m;
+      threes =
+          λ p q l m i j. c.seconds.invariant.chosen.threes p q (omega arith) m i j;
+    } in
+    chosen_three c.args.store.now c.seconds.store c.args.taken.now c.args.number c.args.x c.args.y c.held-held.result c.held-held.ensures.numbers
+    c.seconds.invariant.grown c.requires.number c.requires.pair done

@@ -22,13 +22,17 @@ choose_three-requires-clause-third c
 
 pub thirds-preserved : goal.thirds-preserved
 thirds-preserved c = elim c.if-is_marked.branch [
-  | then-is_marked w ↦ subst (λ (v : StoreData). AreThirds c.args.store.now v c.args.taken.now c.args.number (get_or c.args.held.now.at c.args.place 0) c.args.held.now (c.thirds.other + 1)) (sym w.store-is)
-      (thirds_more c.args.store.now c.thirds.store w.choose_three.new.store c.args.taken.now c.args.number (get_or c.args.held.now.at c.args.place 0) c.args.held.now c.thirds.other c.thirds.invariant
+  | then-is_marked w ↦ subst (λ (v : StoreData). AreThirds c.args.store.now v c.args.taken.now c.args.number (get_or c.args.held.now.at c.args.place 0)
+      c.args.held.now (c.thirds.other + 1)) (sym w.store-is)
+      (thirds_more c.args.store.now c.thirds.store w.choose_three.new.store c.args.taken.now c.args.number (get_or c.args.held.now.at c.args.place 0)
+      c.args.held.now c.thirds.other c.thirds.invariant
       w.choose_three.ensures.extends c.requires.number
       (c.requires.held c.args.place c.requires.place)
       (λ q l. c.requires.held q (omega arith)) w.choose_three.ensures.chosen)
-  | else-is_marked w ↦ subst (λ (v : StoreData). AreThirds c.args.store.now v c.args.taken.now c.args.number (get_or c.args.held.now.at c.args.place 0) c.args.held.now (c.thirds.other + 1)) (sym w.store-is)
-      (thirds_none c.args.store.now c.thirds.store c.args.taken.now c.args.number (get_or c.args.held.now.at c.args.place 0) c.args.held.now c.thirds.other c.thirds.invariant
+  | else-is_marked w ↦ subst (λ (v : StoreData). AreThirds c.args.store.now v c.args.taken.now c.args.number (get_or c.args.held.now.at c.args.place 0)
+      c.args.held.now (c.thirds.other + 1)) (sym w.store-is)
+      (thirds_none c.args.store.now c.thirds.store c.args.taken.now c.args.number (get_or c.args.held.now.at c.args.place 0) c.args.held.now c.thirds.other
+      c.thirds.invariant
       (λ m. both_ways c.is_marked.result w.if-is_marked.false (c.is_marked.ensures.1 m)))
 ]
 

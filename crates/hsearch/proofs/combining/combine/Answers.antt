@@ -11,7 +11,8 @@ use Rattle.hsearch.proofs.combining.combine.Goals as goal
 pub join_over-requires-in-Full-clause-entry : goal.join_over-requires-in-Full-clause-entry
 join_over-requires-in-Full-clause-entry c =
     let a = stands c.args.store.now _ _ _ c.entries.ensures.value c.requires.number c.index-entries-number.is in
-    full_grown c.args.store.now c.join_over.new.store c.args.number c.index-entries-number.result.x c.index-entries-number.result.y c.join_over.ensures.extends c.requires.number
+    full_grown c.args.store.now c.join_over.new.store c.args.number c.index-entries-number.result.x c.index-entries-number.result.y
+    c.join_over.ensures.extends c.requires.number
     (full_at c.args.store.now c.args.number c.index-entries-number.result a c.in-Full.is (c.entries.ensures.sound.valid _ _ a).order).1
 
 pub join_over-requires-clause-entry : goal.join_over-requires-clause-entry
@@ -26,7 +27,8 @@ join_over-requires-clause-list c = λ i m. c.requires.lists.within c.index-entri
 pub list_of-requires-in-Full : goal.list_of-requires-in-Full
 list_of-requires-in-Full c =
     let a = stands c.args.store.now _ _ _ c.entries.ensures.value c.requires.number c.index-entries-number.is in
-    list_there (λ q. q.items) c.args.lists.now c.args.store.now c.args.taken.now c.index-entries-number.result.y c.requires.lists (c.entries.ensures.sound.valid _ _ a).elements
+    list_there (λ q. q.items) c.args.lists.now c.args.store.now c.args.taken.now c.index-entries-number.result.y c.requires.lists
+    (c.entries.ensures.sound.valid _ _ a).elements
 
 pub join_over-requires-in-Full-clause-list : goal.join_over-requires-in-Full-clause-list
 join_over-requires-in-Full-clause-list c =
@@ -62,4 +64,5 @@ choose-requires-clause-pair c = λ a h.
 pub returns-in-Semi-clause-combined : goal.returns-in-Semi-clause-combined
 returns-in-Semi-clause-combined c =
     combined_semi c.args.store.now c.choose.new.store c.args.taken.now c.args.number c.index-entries-number.result c.choose.ensures.extends c.requires.number
-    (stands c.args.store.now _ _ _ c.entries.ensures.value c.requires.number c.index-entries-number.is) c.in-Semi.is c.choose.ensures.twos c.choose.ensures.threes
+    (stands c.args.store.now _ _ _ c.entries.ensures.value c.requires.number c.index-entries-number.is) c.in-Semi.is c.choose.ensures.twos
+    c.choose.ensures.threes

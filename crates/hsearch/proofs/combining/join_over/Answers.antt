@@ -15,9 +15,11 @@ join-requires-clause-other c =
 
 pub others-preserved : goal.others-preserved
 others-preserved c =
-    joined_more c.args.store.now c.others.store c.join.new.store c.over-first.result.number c.over-first.result.middle c.args.list.now c.others.place c.others.invariant
+    joined_more c.args.store.now c.others.store c.join.new.store c.over-first.result.number c.over-first.result.middle c.args.list.now c.others.place
+    c.others.invariant
     c.join.ensures.extends
-    (subst (λ n. n < length c.args.store.now.entries) (sym c.over-first.ensures.names.0) c.requires.number) (omega arith) c.requires.list c.join.ensures.joined
+    (subst (λ n. n < length c.args.store.now.entries) (sym c.over-first.ensures.names.0) c.requires.number) (omega arith) c.requires.list
+    c.join.ensures.joined
 
 pub returns-clause-joined : goal.returns-clause-joined
 returns-clause-joined c =

@@ -71,11 +71,13 @@ enlist-requires-clause-first c =
     = c.entries.invariant.within c.in-Some.number
     (with_itself c.take.new.self c.in-Some.number c.entries.waiting c.in-Some.ensures) in
     let v = c.entries-entries.ensures.sound.valid _ _
-    (stands c.combine.new.store _ _ _ c.entries-entries.ensures.value (number_grown c.entries.store c.combine.new.store c.in-Some.number c.combine.ensures.extends n) c.index-entries-number.is) in
+    (stands c.combine.new.store _ _ _ c.entries-entries.ensures.value
+    (number_grown c.entries.store c.combine.new.store c.in-Some.number c.combine.ensures.extends n) c.index-entries-number.is) in
     let l : c.index-entries-number.result.x < element_count c.combine.new.store.elements
     = omega (arith, v.order, v.elements) in
     list_there (λ q. q.items) c.entries.lists.items c.combine.new.store c.entries.taken.items c.index-entries-number.result.x
-    (listed_stays c.entries.store c.combine.new.store c.entries.taken.items (map (λ q. q.items) c.entries.lists.items) c.entries.invariant.listed c.combine.ensures.extends c.entries.invariant.places) l
+    (listed_stays c.entries.store c.combine.new.store c.entries.taken.items (map (λ q. q.items) c.entries.lists.items) c.entries.invariant.listed
+    c.combine.ensures.extends c.entries.invariant.places) l
 
 pub enlist-requires-clause-second : goal.enlist-requires-clause-second
 enlist-requires-clause-second c =
@@ -83,9 +85,11 @@ enlist-requires-clause-second c =
     = c.entries.invariant.within c.in-Some.number
     (with_itself c.take.new.self c.in-Some.number c.entries.waiting c.in-Some.ensures) in
     let v = c.entries-entries.ensures.sound.valid _ _
-    (stands c.combine.new.store _ _ _ c.entries-entries.ensures.value (number_grown c.entries.store c.combine.new.store c.in-Some.number c.combine.ensures.extends n) c.index-entries-number.is) in
+    (stands c.combine.new.store _ _ _ c.entries-entries.ensures.value
+    (number_grown c.entries.store c.combine.new.store c.in-Some.number c.combine.ensures.extends n) c.index-entries-number.is) in
     list_there (λ q. q.items) c.entries.lists.items c.combine.new.store c.entries.taken.items c.index-entries-number.result.y
-    (listed_stays c.entries.store c.combine.new.store c.entries.taken.items (map (λ q. q.items) c.entries.lists.items) c.entries.invariant.listed c.combine.ensures.extends c.entries.invariant.places) v.elements
+    (listed_stays c.entries.store c.combine.new.store c.entries.taken.items (map (λ q. q.items) c.entries.lists.items) c.entries.invariant.listed
+    c.combine.ensures.extends c.entries.invariant.places) v.elements
 
 pub entries-preserved : goal.entries-preserved
 entries-preserved c =
@@ -99,7 +103,8 @@ entries-preserved c =
     let f : IsWithRange c.take.new.self c.put_from-in-Some.new.self (length c.entries.store.entries)
     (length c.combine.new.store.entries) =
     subst (λ xs. IsWithRange c.take.new.self c.put_from-in-Some.new.self (length c.entries.store.entries) (length xs)) c.entries-entries.ensures.value
-    (subst (λ xs. IsWithRange c.take.new.self c.put_from-in-Some.new.self (length xs) (length c.entries-entries.result.now)) c.entries-count.ensures.value c.in_ok-put_from-2.ensures) in
+    (subst (λ xs. IsWithRange c.take.new.self c.put_from-in-Some.new.self (length xs) (length c.entries-entries.result.now)) c.entries-count.ensures.value
+    c.in_ok-put_from-2.ensures) in
     let long : length c.grow.new.marks.items ≡ length c.combine.new.store.entries
     = c.in_ok-grow.ensures.length ∙ ap length c.entries-entries.ensures.value in
     let place : c.in-Some.number < length c.grow.new.marks.items = omega (arith, n, m, long) in
@@ -110,7 +115,8 @@ entries-preserved c =
     let combined
     = combined_itself c.combine.new.store
     (length c.entries.store.entries) c.entries.taken.items c.grow.new.marks.items c.in-Some.number c.entries-entries.ensures.sound same before in
-    let marks = marked_more c.entries.store c.combine.new.store c.grow.new.marks.items c.entries.waiting c.take.new.self c.put_from-in-Some.new.self c.in-Some.number
+    let marks = marked_more c.entries.store c.combine.new.store c.grow.new.marks.items c.entries.waiting c.take.new.self c.put_from-in-Some.new.self
+    c.in-Some.number
     marked c.in-Some.ensures place f in
     let a = stands c.combine.new.store _ _ _ c.entries-entries.ensures.value
     (number_grown c.entries.store c.combine.new.store c.in-Some.number e n) c.index-entries-number.is in
@@ -132,7 +138,8 @@ entries-preserved c =
       listed = listed_more c.combine.new.store c.grow.new.marks.items
           (map (λ q. q.items) c.entries.lists.items)
           (map (λ q. q.items) c.enlist.new.lists.items) c.in-Some.number c.index-entries-number.result
-          (listed_grown c.combine.new.store c.entries.taken.items c.grow.new.marks.items (map (λ q. q.items) c.entries.lists.items) listed same) c.in_ok-enlist.ensures a;
+          (listed_grown c.combine.new.store c.entries.taken.items c.grow.new.marks.items (map (λ q. q.items) c.entries.lists.items) listed same)
+          c.in_ok-enlist.ensures a;
       within = λ i h. elim (f.others i h) [
         | inl o ↦ let l : i < length c.entries.store.entries
             = c.entries.invariant.within i

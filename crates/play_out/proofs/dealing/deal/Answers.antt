@@ -19,11 +19,16 @@ pairs-init c =
       | then-i-gt0+then-i-eq0 w ↦ record {
         shuffling = same_shuffling start first w.settle.new.cells w.settle.new.generator _ _
             (length start - 1) _ w.cells-is w.generator-is w.i-is
-            (next_shuffling start first start first w.settle.new.generator w.settle.new.cells (length start) (length start - 1) (first_shuffling start first) (omega (arith, w.if-i-gt0.true))
+            (next_shuffling start first start first w.settle.new.generator w.settle.new.cells (length start) (length start - 1) (first_shuffling start first)
+            (omega (arith, w.if-i-gt0.true))
             w.settle.ensures.order w.settle.ensures.same w.settle.ensures.count);
         dealt = same-dealt before w.settle.new.cells _
             (length start - 1) _ before _ w.cells-is w.i-is value
-            (dealt-even before start w.settle.new.cells (length start - 1) (omega (arith, w.if-i-gt0.true)) w.settle.ensures.count (omega (arith, w.if-i-gt0.true, w.if-i-eq0.true)) w.settle.ensures.later);
+            (dealt-even before start w.settle.new.cells (length start - 1) (omega (arith, w.if-i-gt0.true)) w.settle.ensures.count (omega (
+              arith,
+              w.if-i-gt0.true,
+              w.if-i-eq0.true,
+            )) w.settle.ensures.later);
       }
       | else-i-gt0 w ↦ record {
         shuffling = same_shuffling start first start first _ _
@@ -47,7 +52,8 @@ pairs-preserved c =
     record {
       shuffling = next_shuffling _ _ one.new.cells one.new.generator two.new.generator two.new.cells
           (c.pairs.i - 1) _
-          (next_shuffling _ _ c.pairs.cells c.pairs.generator one.new.generator one.new.cells c.pairs.i (c.pairs.i - 1) inv.shuffling (omega arith) one.ensures.order one.ensures.same one.ensures.count)
+          (next_shuffling _ _ c.pairs.cells c.pairs.generator one.new.generator one.new.cells c.pairs.i (c.pairs.i - 1) inv.shuffling (omega arith)
+          one.ensures.order one.ensures.same one.ensures.count)
           (omega arith) two.ensures.order two.ensures.same two.ensures.count;
       dealt = subst (Dealt before two.new.cells (c.pairs.i - 2)) (sym c.with-stones.ensures.value)
           (dealt-two before c.pairs.cells one.new.cells two.new.cells c.pairs.i c.pairs.stones one.result inv.dealt c.pairs-test.true inv.shuffling.within
@@ -66,7 +72,8 @@ pub returns-then-i-gt0-2-clause-stones : goal.returns-then-i-gt0-2-clause-stones
 returns-then-i-gt0-2-clause-stones c =
     let inv = c.pairs.invariant in
     c.with-stones-then-i-gt0-2.ensures.value
-    ∙ (dealt-all (stones_of c.args.board.now c.args.to_move) c.pairs.cells c.pairs.i c.pairs.stones c.index-cells-0.result inv.dealt c.if-i-gt0-2.true (λ h. absurd (omega (arith, h, c.pairs-test.false))) inv.shuffling.within c.index-cells-0.is
+    ∙ (dealt-all (stones_of c.args.board.now c.args.to_move) c.pairs.cells c.pairs.i c.pairs.stones c.index-cells-0.result inv.dealt c.if-i-gt0-2.true
+    (λ h. absurd (omega (arith, h, c.pairs-test.false))) inv.shuffling.within c.index-cells-0.is
     ∙ dealt-to c.args.board.now c.args.to_move c.pairs.cells)
 
 pub returns-else-i-gt0-2-clause-order : goal.returns-else-i-gt0-2-clause-order

@@ -18,7 +18,8 @@ loop-k-preserved c =
     let end : 4 * c.loop-k.k + 4 ≡ 4 * (c.loop-k.k + 1) = omega arith in
     record {
       listed = subst (Listed c.bits-rest.result c.list_four-count.new.cells c.list_four-count.result) end
-          (listed_four c.bits-rest.result c.loop-k.cells c.list_four-count.new.cells c.loop-k.count (4 * c.loop-k.k) c.list_four-count.result (c.loop-k.rest % 16) c.loop-k.invariant.listed
+          (listed_four c.bits-rest.result c.loop-k.cells c.list_four-count.new.cells c.loop-k.count (4 * c.loop-k.k) c.list_four-count.result
+          (c.loop-k.rest % 16) c.loop-k.invariant.listed
           (ap (λ v. v % 16) c.loop-k.invariant.rest)
           (c.list_four-count.ensures.size ∙ c.loop-k.invariant.listed.size) c.list_four-count.ensures.list c.list_four-count.ensures.count);
       rest = rest_next c.bits-rest.result c.loop-k.rest c.loop-k.k c.loop-k.invariant.rest;

@@ -8,8 +8,12 @@ use Rattle.play_out.proofs.order.settle.Goals as goal
 
 -- the two writes are a swap
 swap_of : (c : goal.After-index-cells-i)
-    → set (set c.args.cells.now c.args.i c.index-cells-from.result) c.place-from.result c.index-cells-i.result ≡ swap c.args.cells.now c.args.i c.place-from.result
-swap_of c = swapped c.args.cells.now c.args.i c.place-from.result c.index-cells-from.result c.index-cells-i.result (omega (arith, c.requires.place.1)) (omega (arith, c.requires.place.1, c.place-from.ensures.range))
+    → set (set c.args.cells.now c.args.i c.index-cells-from.result) c.place-from.result c.index-cells-i.result
+    ≡ swap c.args.cells.now c.args.i c.place-from.result
+swap_of c = swapped c.args.cells.now c.args.i c.place-from.result c.index-cells-from.result c.index-cells-i.result (omega (
+  arith,
+  c.requires.place.1,
+)) (omega (arith, c.requires.place.1, c.place-from.ensures.range))
     c.index-cells-from.is c.index-cells-i.is
 
 pub returns-clause-order : goal.returns-clause-order
@@ -31,5 +35,8 @@ returns-clause-later c = ap (drop (c.args.i + 1)) (swap_of c)
 
 pub returns-clause-cell : goal.returns-clause-cell
 returns-clause-cell c
-    = swapped_first c.args.cells.now c.args.i c.place-from.result c.index-cells-from.result c.index-cells-i.result (omega (arith, c.requires.place.1)) (omega (arith, c.requires.place.1, c.place-from.ensures.range))
+    = swapped_first c.args.cells.now c.args.i c.place-from.result c.index-cells-from.result c.index-cells-i.result (omega (
+      arith,
+      c.requires.place.1,
+    )) (omega (arith, c.requires.place.1, c.place-from.ensures.range))
     c.index-cells-from.is c.index-cells-i.is

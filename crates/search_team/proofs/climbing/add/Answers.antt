@@ -16,7 +16,8 @@ make_or_owe-answer-requires-clause-seen c word won e
 pub returns-clause-belongs : goal.returns-clause-belongs
 returns-clause-belongs c =
     (added c.args.walker.now c.args.climb.now c.args.seat.now.view c.requires.more c.requires.belongs c.op.result c.make_or_owe-answer.result
-    c.got.new.self c.make_or_owe-answer.new.seat.view c.op.ensures c.make_or_owe-answer.ensures.answer c.got.ensures c.make_or_owe-answer.ensures.view).belongs
+    c.got.new.self c.make_or_owe-answer.new.seat.view c.op.ensures c.make_or_owe-answer.ensures.answer c.got.ensures
+    c.make_or_owe-answer.ensures.view).belongs
 
 pub returns-clause-fewer : goal.returns-clause-fewer
 returns-clause-fewer c =

@@ -19,7 +19,8 @@ steps-init g c =
       belongs = belongs;
       lone = fresh.lone refl;
       debts = subst (HoldsDebts c.args.tree.now.shape c.none-sums.result) (sym fresh.owed)
-          (c.none-sums.ensures.none c.args.tree.now.shape (ap (λ (s : Setting). s.knobs.workers) c.requires.shape ∙ ap (λ (k : Knobs). k.workers) (sym c.knobs.ensures.value)));
+          (c.none-sums.ensures.none c.args.tree.now.shape (ap (λ (s : Setting). s.knobs.workers) c.requires.shape
+          ∙ ap (λ (k : Knobs). k.workers) (sym c.knobs.ensures.value)));
     }
 
 pub make_seen_adds-requires-clause-lone : goal.make_seen_adds-requires-clause-lone

@@ -31,5 +31,7 @@ returns-clause-added c bs h d =
 pub returns-clause-record : goal.returns-clause-record
 returns-clause-record c =
     let q = c.requires.walked in
-    subst (λ r. Records c.args.shape.now c.args.k (2 * c.args.walk.now.node + r) c.args.words.now (set_at c.count.new.words (2 + c.args.k) (2 * c.args.walk.now.node + c.mark.result))) c.mark.ensures.value
-    (recorded-records c.args.shape.now q.0 c.args.words.now c.count.new.words c.args.k (2 * c.args.walk.now.node + c.mark.result) c.args.ending.now c.requires.number q.1 (c.count.ensures q.0 c.args.k c.requires.number q.1 q.2))
+    subst (λ r. Records c.args.shape.now c.args.k (2 * c.args.walk.now.node
+    + r) c.args.words.now (set_at c.count.new.words (2 + c.args.k) (2 * c.args.walk.now.node + c.mark.result))) c.mark.ensures.value
+    (recorded-records c.args.shape.now q.0 c.args.words.now c.count.new.words c.args.k (2 * c.args.walk.now.node
+    + c.mark.result) c.args.ending.now c.requires.number q.1 (c.count.ensures q.0 c.args.k c.requires.number q.1 q.2))

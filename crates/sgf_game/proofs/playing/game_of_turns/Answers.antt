@@ -31,18 +31,22 @@ overflow_cast-result c =
 pub returns-then-not-take_turn : goal.returns-then-not-take_turn
 returns-then-not-take_turn c =
     let within : c.loop-index.index < length c.args.turns.now = grind arith in
-    let refused = refused_at c.args.start.now c.args.turns.now c.loop-index.index c.index-turns-index.result c.loop-index.game within c.index-turns-index.is c.loop-index.invariant.game
+    let refused = refused_at c.args.start.now c.args.turns.now c.loop-index.index c.index-turns-index.result c.loop-index.game within c.index-turns-index.is
+    c.loop-index.invariant.game
     (sym c.if-not-take_turn.true ∙ c.take_turn.ensures.legal) in
-    inl (sym (ap (λ o. game_unless o (game_after c.args.start.now c.args.turns.now)) (first_is c.args.start.now c.args.turns.now c.loop-index.index within refused c.loop-index.invariant.legal)))
+    inl (sym (ap (λ o. game_unless o (game_after c.args.start.now c.args.turns.now))
+    (first_is c.args.start.now c.args.turns.now c.loop-index.index within refused c.loop-index.invariant.legal)))
 
 pub loop-index-preserved : goal.loop-index-preserved
 loop-index-preserved c =
     let within : c.loop-index.index < length c.args.turns.now = grind arith in
     record {
       game = c.take_turn.ensures.taken c.if-not-take_turn.false
-          ∙ game_more c.args.start.now c.args.turns.now c.loop-index.index c.index-turns-index.result c.loop-index.game within c.index-turns-index.is c.loop-index.invariant.game;
+          ∙ game_more c.args.start.now c.args.turns.now c.loop-index.index c.index-turns-index.result c.loop-index.game within c.index-turns-index.is
+          c.loop-index.invariant.game;
       legal = below_more _ _ c.loop-index.invariant.legal
-          (taken_at c.args.start.now c.args.turns.now c.loop-index.index c.index-turns-index.result c.loop-index.game within c.index-turns-index.is c.loop-index.invariant.game
+          (taken_at c.args.start.now c.args.turns.now c.loop-index.index c.index-turns-index.result c.loop-index.game within c.index-turns-index.is
+          c.loop-index.invariant.game
           (sym c.if-not-take_turn.false ∙ c.take_turn.ensures.legal));
     }
 
@@ -51,4 +55,5 @@ returns c =
     let none = first_none c.args.start.now c.args.turns.now
     (λ j h. c.loop-index.invariant.legal j (omega arith)) in
     let all = take_all c.loop-index.index c.args.turns.now c.loop-index-test.false in
-    inl (ap Ok (c.loop-index.invariant.game ∙ ap (game_after c.args.start.now) all) ∙ sym (ap (λ o. game_unless o (game_after c.args.start.now c.args.turns.now)) none))
+    inl (ap Ok (c.loop-index.invariant.game ∙ ap (game_after c.args.start.now) all)
+    ∙ sym (ap (λ o. game_unless o (game_after c.args.start.now c.args.turns.now)) none))

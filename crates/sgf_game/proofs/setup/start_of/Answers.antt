@@ -62,7 +62,8 @@ returns-in_err-white c =
 pub of-requires : goal.of-requires
 of-requires c =
     let small : c.args.size ≤ 11 = grind arith in
-    let both = placed c.args.size c.none.result c.in_ok-black.black c.in_ok-white.white c.args.root.now small c.none.ensures.value c.in_ok-black.ensures c.in_ok-white.ensures in
+    let both = placed c.args.size c.none.result c.in_ok-black.black c.in_ok-white.white c.args.root.now small c.none.ensures.value c.in_ok-black.ensures
+    c.in_ok-white.ensures in
     record { apart = both.apart; black_on = both.black_on; white_on = both.white_on }
 
 pub returns : goal.returns
@@ -70,7 +71,8 @@ returns c =
     let small : c.args.size ≤ 11 = grind arith in
     let late : is_changed_late c.args.root.now (nodes_lent c.args.behind.now) ≡ false
     = grind arith in
-    let both = placed c.args.size c.none.result c.in_ok-black.black c.in_ok-white.white c.args.root.now small c.none.ensures.value c.in_ok-black.ensures c.in_ok-white.ensures in (
+    let both = placed c.args.size c.none.result c.in_ok-black.black c.in_ok-white.white c.args.root.now small c.none.ensures.value c.in_ok-black.ensures
+    c.in_ok-white.ensures in (
       late_or _ _ false late both.fine,
       c.of.ensures
           ∙ ap (λ b. record { size = c.args.size; black = b; white = c.in_ok-white.white }) both.black

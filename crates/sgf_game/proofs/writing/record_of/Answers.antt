@@ -11,4 +11,5 @@ node_of-requires c =
     let here : c.step-item.result ≡ get_or game.steps c.loop-step.step-index c.step-item.result
     = grind arith in
     subst (λ n. IsMoveOn n c.step-item.result.what) (sym size)
-    (step_on game.start.size game.steps c.loop-step.step-index c.step-item.result (legal_on_board game.start game.steps c.steps_are_legal.ensures.legal) within here)
+    (step_on game.start.size game.steps c.loop-step.step-index c.step-item.result (legal_on_board game.start game.steps c.steps_are_legal.ensures.legal)
+    within here)

@@ -39,8 +39,12 @@ returns-clause-schedule c =
       new = c.in_ok-run.ensures.walkers;
       turns = turns;
       ended = ended;
-      along = subst (λ (l : List ℕ). StepsAlong (record { words = l; walkers = run.walkers.items }) (ids ++ rounds s.knobs.workers turns) (record { words = c.close.result.words; walkers = ended })) c.in_ok-run.ensures.words
-          (subst (λ (l : List ℕ). StepsAlong (data_of run) (ids ++ rounds s.knobs.workers turns) (record { words = l; walkers = ended })) (sym c.close.ensures.words)
+      along = subst (λ (l : List ℕ). StepsAlong (record { words = l; walkers = run.walkers.items }) (ids
+          ++ rounds s.knobs.workers turns) (record { words = c.close.result.words; walkers = ended })) c.in_ok-run.ensures.words
+          (subst (λ (l : List ℕ). StepsAlong (data_of run) (ids ++ rounds s.knobs.workers turns) (record {
+            words = l;
+            walkers = ended;
+          })) (sym c.close.ensures.words)
           (subst (λ (k : ℕ). StepsAlong (data_of run) (ids ++ rounds k turns) (data_of c.finish.new.self)) workers all));
       finished = c.finish.ensures.finished;
     }

@@ -10,7 +10,12 @@ pub loop-i-preserved : goal.loop-i-preserved
 loop-i-preserved c =
     let words = slots_items c.args.table.now.words in
     copied-more words c.loop-i.room
-    (next_in words) c.loop-i.i c.word-in-loop-i.result c.loop-i.invariant c.word-in-loop-i.ensures (omega (arith, c.loop-i-test.true, c.min-end.ensures, c.loop-i.auto.room))
+    (next_in words) c.loop-i.i c.word-in-loop-i.result c.loop-i.invariant c.word-in-loop-i.ensures (omega (
+      arith,
+      c.loop-i-test.true,
+      c.min-end.ensures,
+      c.loop-i.auto.room,
+    ))
 
 pub returns : goal.returns
 returns c =

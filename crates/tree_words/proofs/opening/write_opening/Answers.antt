@@ -47,7 +47,11 @@ returns-clause-opening c =
     opening-written s c.root-root.result c.empties.result c.write_block-count.result
     (listed c.size.result c.allowed.result) c.args.words.now c.write_block-count.new.words h
     c.requires c.root-root.ensures is
-    (subst (HasEmpties c.empties.result) c.board-board.ensures.value (has-empties c.empties.result c.board-board.result.now (omega (arith, c.size.ensures.value, c.size.ensures.range)) c.empties.ensures))
+    (subst (HasEmpties c.empties.result) c.board-board.ensures.value (has-empties c.empties.result c.board-board.result.now (omega (
+      arith,
+      c.size.ensures.value,
+      c.size.ensures.range,
+    )) c.empties.ensures))
     c.write_block-count.ensures.words c.write_block-count.ensures.count
 
 pub returns-clause-told : goal.returns-clause-told

@@ -7,7 +7,8 @@ use Rattle.tree_words.proofs.roots.report.Goals as goal
 pub loop-place-preserved : goal.loop-place-preserved
 loop-place-preserved c
     = one_row_more
-    (row_at c.args.closed.now.shape c.args.closed.now.words) c.loop-place.place c.loop-place.rows.items _ c.row.result c.loop-place.invariant c.row.ensures c.in-Ok-push.ensures.items
+    (row_at c.args.closed.now.shape c.args.closed.now.words) c.loop-place.place c.loop-place.rows.items _ c.row.result c.loop-place.invariant c.row.ensures
+    c.in-Ok-push.ensures.items
 
 pub returns-clause-rising : goal.returns-clause-rising
 returns-clause-rising c =

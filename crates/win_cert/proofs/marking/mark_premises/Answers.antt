@@ -46,7 +46,8 @@ entries-preserved-then-index c =
       number = c.mark.ensures.number ∙ c.entries.invariant.number;
       left = omega arith;
       kept = λ i h. c.mark.ensures.kept i (c.entries.invariant.kept i h);
-      closed = closed_more entries c.entries.marks.items c.mark.new.marks.items n a c.requires.earlier (subst (IsClosedFrom entries c.entries.marks.items) up c.entries.invariant.closed)
+      closed = closed_more entries c.entries.marks.items c.mark.new.marks.items n a c.requires.earlier
+          (subst (IsClosedFrom entries c.entries.marks.items) up c.entries.invariant.closed)
           (read_at entries n a (omega arith) c.index-entries-left.is)
           (subst (λ (v : Entry). IsMarkedBy c.entries.marks.items (premises v.cause) c.mark.new.marks.items) (sym c.index-entries-left.is) c.mark.ensures);
       least = λ s p f. c.mark.ensures.least s

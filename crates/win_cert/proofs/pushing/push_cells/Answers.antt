@@ -12,7 +12,8 @@ loop-k-preserved c = record {
   text = text_more (vertex_of c.args.size) (has c.args.set) c.loop-k.k
       (c.args.text.now.items ++ c.args.word.now)
       c.loop-k.text.items c.push_member.new.text.items c.loop-k.invariant.text
-      (c.in_ok-push_member.ensures ∙ ap (λ k. c.loop-k.text.items ++ after_spaces (map (vertex_of c.args.size) (filter (has c.args.set) (k ∷ [])))) c.numbered.ensures);
+      (c.in_ok-push_member.ensures ∙ ap (λ k. c.loop-k.text.items
+      ++ after_spaces (map (vertex_of c.args.size) (filter (has c.args.set) (k ∷ [])))) c.numbered.ensures);
 }
 
 pub returns : goal.returns

@@ -15,7 +15,8 @@ returns-then-not-takes_all c =
     let o = c.args.over_cell in
     let s = Derivation (chain_line o c.args.i c.args.j) in
     chain_reasons c.args.self.now o c.args.i c.args.j ∙ told_first _ _ _
-    (chain_bad c.args.self.now o c.args.i c.args.j c.takes_all.result (c.takes_all.ensures s (chain_takes o c.args.i c.args.j)) ∙ ap not c.if-not-takes_all.true)
+    (chain_bad c.args.self.now o c.args.i c.args.j c.takes_all.result (c.takes_all.ensures s (chain_takes o c.args.i c.args.j))
+    ∙ ap not c.if-not-takes_all.true)
 
 pub returns-then-not-are_in_scope : goal.returns-then-not-are_in_scope
 returns-then-not-are_in_scope c =
@@ -30,13 +31,15 @@ returns-then-not-are_in_scope c =
 pub returns-in_default : goal.returns-in_default
 returns-in_default c =
     let s = Derivation (chain_line c.args.over_cell c.args.i c.args.j) in
-    absurd (missing c.args.self.now s c.args.i (c.args.j ∷ []) (sym (c.takes_all.ensures s (chain_takes c.args.over_cell c.args.i c.args.j)) ∙ c.if-not-takes_all.false)
+    absurd (missing c.args.self.now s c.args.i (c.args.j ∷ []) (sym (c.takes_all.ensures s (chain_takes c.args.over_cell c.args.i c.args.j))
+    ∙ c.if-not-takes_all.false)
     (sym c.entry.ensures.value ∙ ap (option_map entry_of) c.in_default.is))
 
 pub returns-in_default-entry : goal.returns-in_default-entry
 returns-in_default-entry c =
     let s = Derivation (chain_line c.args.over_cell c.args.i c.args.j) in
-    absurd (missing_next c.args.self.now s c.args.i c.args.j [] (sym (c.takes_all.ensures s (chain_takes c.args.over_cell c.args.i c.args.j)) ∙ c.if-not-takes_all.false)
+    absurd (missing_next c.args.self.now s c.args.i c.args.j [] (sym (c.takes_all.ensures s (chain_takes c.args.over_cell c.args.i c.args.j))
+    ∙ c.if-not-takes_all.false)
     (sym c.entry-2.ensures.value ∙ ap (option_map entry_of) c.in_default-entry.is))
 
 pub join-requires : goal.join-requires

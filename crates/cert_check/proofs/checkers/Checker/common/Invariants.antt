@@ -7,4 +7,5 @@ use Rattle.cert_check.proofs.checkers.Checker.common.Given as goal
 
 abbrev pub invariant-numbers : goal.invariant-numbers
 invariant-numbers l = (k : ℕ)
-    → (nat_lt k MOST_CELLS && list_all (λ a. has a.carrier k) (entries_at l.self l.numbers)) ≡ (has l.cells k && list_all (λ a. has a.carrier k) (entries_at l.self (drop l.number-index l.numbers)))
+    → (nat_lt k MOST_CELLS && list_all (λ a. has a.carrier k) (entries_at l.self l.numbers))
+    ≡ (has l.cells k && list_all (λ a. has a.carrier k) (entries_at l.self (drop l.number-index l.numbers)))

@@ -31,7 +31,8 @@ returns-in_default c line h =
     let now = c.args.self.now in
     let s = Derivation line in
     absurd (missing now s c.args.first c.requires.0
-    (ap (list_all (λ i. may_take s (entry_at now i))) (sym c.requires.1) ∙ sym (c.takes_all.ensures s (or_takes line c.args.numbers.now h)) ∙ c.if-not-takes_all.false)
+    (ap (list_all (λ i. may_take s (entry_at now i))) (sym c.requires.1) ∙ sym (c.takes_all.ensures s (or_takes line c.args.numbers.now h))
+    ∙ c.if-not-takes_all.false)
     (sym c.entry.ensures.value ∙ ap (option_map entry_of) c.in_default.is))
 
 pub returns-then-not-have_ends_of : goal.returns-then-not-have_ends_of
@@ -65,14 +66,16 @@ between-requires-clause-a c =
     let now = c.args.self.now in
     let numbers = c.args.numbers.now in
     let named = named_first now c.requires.1 c.entry.ensures.value c.in-Some.is in
-    (first_ends now (entries_at now numbers) named (kept_scope numbers c.self.view_is c.are_in_scope.ensures) c.if-not-are_in_scope.false c.in-Some.is c.entry.ensures.given).0
+    (first_ends now (entries_at now numbers) named (kept_scope numbers c.self.view_is c.are_in_scope.ensures) c.if-not-are_in_scope.false c.in-Some.is
+    c.entry.ensures.given).0
 
 pub between-requires-clause-b : goal.between-requires-clause-b
 between-requires-clause-b c =
     let now = c.args.self.now in
     let numbers = c.args.numbers.now in
     let named = named_first now c.requires.1 c.entry.ensures.value c.in-Some.is in
-    (first_ends now (entries_at now numbers) named (kept_scope numbers c.self.view_is c.are_in_scope.ensures) c.if-not-are_in_scope.false c.in-Some.is c.entry.ensures.given).1
+    (first_ends now (entries_at now numbers) named (kept_scope numbers c.self.view_is c.are_in_scope.ensures) c.if-not-are_in_scope.false c.in-Some.is
+    c.entry.ensures.given).1
 
 pub returns : goal.returns
 returns c line h =

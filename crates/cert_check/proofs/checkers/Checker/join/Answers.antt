@@ -56,7 +56,8 @@ cell-requires c =
     let at : c.self.inside.elements ≡ elements_at now = c.self.invariant.are_elements
     ∙ ap elements_at c.self.view_is in
     subst (λ (e : PlayerBoard). c.in-Some.middle < element_count e) (sym at)
-    (middle_below now c.args.a.now (entry_of c.args.b.now) c.in-Some.middle c.requires.named.first_scope c.requires.named.first_given (sym c.middle.ensures ∙ c.in-Some.is))
+    (middle_below now c.args.a.now (entry_of c.args.b.now) c.in-Some.middle c.requires.named.first_scope c.requires.named.first_given (sym c.middle.ensures
+    ∙ c.in-Some.is))
 
 pub returns-then-over_cell : goal.returns-then-over_cell
 returns-then-over_cell c =

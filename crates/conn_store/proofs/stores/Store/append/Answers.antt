@@ -35,12 +35,15 @@ index_mut-requires-in-Semi c =
 
 pub push_number-requires : goal.push_number-requires
 push_number-requires c =
-    held_room c.args.entry.kind c.index_mut.result.now _ (held_here _ _ _ _ _ _ _ _ _ c.self.invariant.full_table c.self.view_is c.in-Full.is c.pair_number-pair.ensures c.requires.valid.order c.requires.valid.elements c.index_mut.ensures.value)
+    held_room c.args.entry.kind c.index_mut.result.now _ (held_here _ _ _ _ _ _ _ _ _ c.self.invariant.full_table c.self.view_is c.in-Full.is
+    c.pair_number-pair.ensures c.requires.valid.order c.requires.valid.elements c.index_mut.ensures.value)
     c.requires.room
 
 pub push_number-requires-in-Semi : goal.push_number-requires-in-Semi
 push_number-requires-in-Semi c =
-    held_room c.args.entry.kind c.index_mut-in-Semi.result.now _ (held_here _ _ _ _ _ _ _ _ _ c.self.invariant.semi_table c.self.view_is c.in-Semi.is c.pair_number-pair.ensures c.requires.valid.order c.requires.valid.elements c.index_mut-in-Semi.ensures.value)
+    held_room c.args.entry.kind c.index_mut-in-Semi.result.now _
+    (held_here _ _ _ _ _ _ _ _ _ c.self.invariant.semi_table c.self.view_is c.in-Semi.is c.pair_number-pair.ensures c.requires.valid.order
+    c.requires.valid.elements c.index_mut-in-Semi.ensures.value)
     c.requires.room
 
 -- what the write of one table leaves
@@ -115,30 +118,46 @@ asked i d a h e v f q r = record {
 pub unwrap-requires : goal.unwrap-requires
 unwrap-requires c =
     let q : Asked c.self.inside c.args.entry (held_of (numbers_of c.args.self.now c.args.entry.kind c.args.entry.x c.args.entry.y)) =
-    asked c.self.inside c.args.self.now c.args.entry (held_of (numbers_of c.args.self.now c.args.entry.kind c.args.entry.x c.args.entry.y)) c.self.view_is c.requires.valid c.requires.follows refl c.requires.room in
+    asked c.self.inside c.args.self.now c.args.entry (held_of (numbers_of c.args.self.now c.args.entry.kind c.args.entry.x c.args.entry.y)) c.self.view_is
+    c.requires.valid c.requires.follows refl c.requires.room in
     let k : c.len-number.result ≡ length c.self.inside.entries.items = omega arith in
-    let w : Written c.self.inside c.match-entry.self-inside c.args.entry (held_of (numbers_of c.args.self.now c.args.entry.kind c.args.entry.x c.args.entry.y))
+    let w : Written c.self.inside c.match-entry.self-inside c.args.entry
+    (held_of (numbers_of c.args.self.now c.args.entry.kind c.args.entry.x c.args.entry.y))
     = elim c.match-entry.branch [
-      | in-Full w ↦ full_written _ _ _ _ _ _ _ (pushed_is _ _ _ _ w.push_number.ensures (held_here _ _ _ _ _ _ _ _ _ c.self.invariant.full_table c.self.view_is w.in-Full.is c.pair_number-pair.ensures c.requires.valid.order c.requires.valid.elements w.index_mut.ensures.value)) c.pair_number-pair.ensures k w.in-Full.is w.self-inside-is
-      | in-Semi w ↦ semi_written _ _ _ _ _ _ _ (pushed_is _ _ _ _ w.push_number-in-Semi.ensures (held_here _ _ _ _ _ _ _ _ _ c.self.invariant.semi_table c.self.view_is w.in-Semi.is c.pair_number-pair.ensures c.requires.valid.order c.requires.valid.elements w.index_mut-in-Semi.ensures.value)) c.pair_number-pair.ensures k w.in-Semi.is w.self-inside-is
+      | in-Full w ↦ full_written _ _ _ _ _ _ _
+          (pushed_is _ _ _ _ w.push_number.ensures (held_here _ _ _ _ _ _ _ _ _ c.self.invariant.full_table c.self.view_is w.in-Full.is
+          c.pair_number-pair.ensures c.requires.valid.order c.requires.valid.elements w.index_mut.ensures.value)) c.pair_number-pair.ensures k w.in-Full.is
+          w.self-inside-is
+      | in-Semi w ↦ semi_written _ _ _ _ _ _ _ (pushed_is _ _ _ _ w.push_number-in-Semi.ensures
+          (held_here _ _ _ _ _ _ _ _ _ c.self.invariant.semi_table c.self.view_is w.in-Semi.is c.pair_number-pair.ensures c.requires.valid.order
+          c.requires.valid.elements w.index_mut-in-Semi.ensures.value)) c.pair_number-pair.ensures k w.in-Semi.is w.self-inside-is
     ] in
     let l : length c.self.inside.entries.items < vec_capacity c.self.inside.entries =
-    room_more _ _ _ _ _ _ c.args.entry (held_of (numbers_of c.args.self.now c.args.entry.kind c.args.entry.x c.args.entry.y)) _ _ c.self.invariant q.valid q.held q.room w.tables in
+    room_more _ _ _ _ _ _ c.args.entry (held_of (numbers_of c.args.self.now c.args.entry.kind c.args.entry.x c.args.entry.y)) _ _ c.self.invariant q.valid
+    q.held q.room w.tables in
     c.push.ensures.succeeds (rw w.entries (omega arith))
 
 pub invariant_of-self : goal.invariant_of-self
 invariant_of-self c =
     let q : Asked c.self.inside c.args.entry (held_of (numbers_of c.args.self.now c.args.entry.kind c.args.entry.x c.args.entry.y)) =
-    asked c.self.inside c.args.self.now c.args.entry (held_of (numbers_of c.args.self.now c.args.entry.kind c.args.entry.x c.args.entry.y)) c.self.view_is c.requires.valid c.requires.follows refl c.requires.room in
+    asked c.self.inside c.args.self.now c.args.entry (held_of (numbers_of c.args.self.now c.args.entry.kind c.args.entry.x c.args.entry.y)) c.self.view_is
+    c.requires.valid c.requires.follows refl c.requires.room in
     let k : c.len-number.result ≡ length c.self.inside.entries.items = omega arith in
-    let w : Written c.self.inside c.match-entry.self-inside c.args.entry (held_of (numbers_of c.args.self.now c.args.entry.kind c.args.entry.x c.args.entry.y))
+    let w : Written c.self.inside c.match-entry.self-inside c.args.entry
+    (held_of (numbers_of c.args.self.now c.args.entry.kind c.args.entry.x c.args.entry.y))
     = elim c.match-entry.branch [
-      | in-Full w ↦ full_written _ _ _ _ _ _ _ (pushed_is _ _ _ _ w.push_number.ensures (held_here _ _ _ _ _ _ _ _ _ c.self.invariant.full_table c.self.view_is w.in-Full.is c.pair_number-pair.ensures c.requires.valid.order c.requires.valid.elements w.index_mut.ensures.value)) c.pair_number-pair.ensures k w.in-Full.is w.self-inside-is
-      | in-Semi w ↦ semi_written _ _ _ _ _ _ _ (pushed_is _ _ _ _ w.push_number-in-Semi.ensures (held_here _ _ _ _ _ _ _ _ _ c.self.invariant.semi_table c.self.view_is w.in-Semi.is c.pair_number-pair.ensures c.requires.valid.order c.requires.valid.elements w.index_mut-in-Semi.ensures.value)) c.pair_number-pair.ensures k w.in-Semi.is w.self-inside-is
+      | in-Full w ↦ full_written _ _ _ _ _ _ _
+          (pushed_is _ _ _ _ w.push_number.ensures (held_here _ _ _ _ _ _ _ _ _ c.self.invariant.full_table c.self.view_is w.in-Full.is
+          c.pair_number-pair.ensures c.requires.valid.order c.requires.valid.elements w.index_mut.ensures.value)) c.pair_number-pair.ensures k w.in-Full.is
+          w.self-inside-is
+      | in-Semi w ↦ semi_written _ _ _ _ _ _ _ (pushed_is _ _ _ _ w.push_number-in-Semi.ensures
+          (held_here _ _ _ _ _ _ _ _ _ c.self.invariant.semi_table c.self.view_is w.in-Semi.is c.pair_number-pair.ensures c.requires.valid.order
+          c.requires.valid.elements w.index_mut-in-Semi.ensures.value)) c.pair_number-pair.ensures k w.in-Semi.is w.self-inside-is
     ] in
     let items : c.push.new.self.items ≡ c.self.inside.entries.items ++ c.args.entry ∷ []
     = rw (← w.entries) (rw c.unwrap.ensures at c.push.ensures.items) in
     let room : vec_capacity c.self.inside.entries ≤ vec_capacity c.push.new.self
     = rw (← w.entries) (omega (arith, c.push.ensures.capacity)) in
     rw (w.board, w.colour, w.elements, items)
-    (stored_more _ _ _ _ _ _ c.args.entry (held_of (numbers_of c.args.self.now c.args.entry.kind c.args.entry.x c.args.entry.y)) _ _ _ c.self.invariant q.valid q.follows q.held q.room w.tables room)
+    (stored_more _ _ _ _ _ _ c.args.entry (held_of (numbers_of c.args.self.now c.args.entry.kind c.args.entry.x c.args.entry.y)) _ _ _ c.self.invariant
+    q.valid q.follows q.held q.room w.tables room)

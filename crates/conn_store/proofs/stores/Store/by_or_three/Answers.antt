@@ -14,7 +14,8 @@ returns-then-not-are_three_ways-clause-none c =
 
 pub returns-clause-next : goal.returns-clause-next
 returns-clause-next c =
-    three_next c.args.self.now c.args.i c.args.j c.args.k c.index-entries-i.result c.index-entries-j.result c.index-entries-k.result c.entry_of.result c.entries.ensures.sound
+    three_next c.args.self.now c.args.i c.args.j c.args.k c.index-entries-i.result c.index-entries-j.result c.index-entries-k.result c.entry_of.result
+    c.entries.ensures.sound
     (stands c.args.self.now _ _ _ c.entries.ensures.value c.requires.first c.index-entries-i.is)
     (stands c.args.self.now _ _ _ c.entries-2.ensures.value c.requires.second c.index-entries-j.is)
     (stands c.args.self.now _ _ _ c.entries-3.ensures.value c.requires.third c.index-entries-k.is)

@@ -14,7 +14,8 @@ cells-requires c =
     = ap (λ (d : StoreData). d.elements) c.self.view_is in
     let a = stands c.args.self.now _ _ _ c.entries.ensures.value c.requires.number c.index-entries-number.is in
     subst (λ (v : PlayerBoard). c.args.end < element_count v) (sym e)
-    (ends_below c.args.self.now.elements c.index-entries-number.result c.args.end c.args.middle (c.entries.ensures.sound.valid _ _ a) (c.requires.entry _ a).pair).0
+    (ends_below c.args.self.now.elements c.index-entries-number.result c.args.end c.args.middle (c.entries.ensures.sound.valid _ _ a)
+    (c.requires.entry _ a).pair).0
 
 pub cell-requires : goal.cell-requires
 cell-requires c =
@@ -22,7 +23,8 @@ cell-requires c =
     = ap (λ (d : StoreData). d.elements) c.self.view_is in
     let a = stands c.args.self.now _ _ _ c.entries.ensures.value c.requires.number c.index-entries-number.is in
     subst (λ (v : PlayerBoard). c.args.middle < element_count v) (sym e)
-    (ends_below c.args.self.now.elements c.index-entries-number.result c.args.end c.args.middle (c.entries.ensures.sound.valid _ _ a) (c.requires.entry _ a).pair).1
+    (ends_below c.args.self.now.elements c.index-entries-number.result c.args.end c.args.middle (c.entries.ensures.sound.valid _ _ a)
+    (c.requires.entry _ a).pair).1
 
 pub returns-clause-over : goal.returns-clause-over
 returns-clause-over c =

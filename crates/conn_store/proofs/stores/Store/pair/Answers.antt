@@ -16,18 +16,22 @@ index-requires-in-Semi c =
 
 pub returns-in-Full-clause-numbers : goal.returns-in-Full-clause-numbers
 returns-in-Full-clause-numbers c =
-    held_here _ _ _ _ _ _ _ _ _ c.self.invariant.full_table c.self.view_is c.in-Full.is c.pair_number-pair.ensures c.requires.order c.requires.elements c.index.ensures
+    held_here _ _ _ _ _ _ _ _ _ c.self.invariant.full_table c.self.view_is c.in-Full.is c.pair_number-pair.ensures c.requires.order c.requires.elements
+    c.index.ensures
 
 pub returns-in-Semi-clause-numbers : goal.returns-in-Semi-clause-numbers
 returns-in-Semi-clause-numbers c =
-    held_here _ _ _ _ _ _ _ _ _ c.self.invariant.semi_table c.self.view_is c.in-Semi.is c.pair_number-pair.ensures c.requires.order c.requires.elements c.index-in-Semi.ensures
+    held_here _ _ _ _ _ _ _ _ _ c.self.invariant.semi_table c.self.view_is c.in-Semi.is c.pair_number-pair.ensures c.requires.order c.requires.elements
+    c.index-in-Semi.ensures
 
 pub returns-in-Full-clause-few : goal.returns-in-Full-clause-few
 returns-in-Full-clause-few c =
     few_here _ _ _ _ _ _ c.self.invariant.few c.self.view_is
-    (held_here _ _ _ _ _ _ _ _ _ c.self.invariant.full_table c.self.view_is c.in-Full.is c.pair_number-pair.ensures c.requires.order c.requires.elements c.index.ensures)
+    (held_here _ _ _ _ _ _ _ _ _ c.self.invariant.full_table c.self.view_is c.in-Full.is c.pair_number-pair.ensures c.requires.order c.requires.elements
+    c.index.ensures)
 
 pub returns-in-Semi-clause-few : goal.returns-in-Semi-clause-few
 returns-in-Semi-clause-few c =
     few_here _ _ _ _ _ _ c.self.invariant.few c.self.view_is
-    (held_here _ _ _ _ _ _ _ _ _ c.self.invariant.semi_table c.self.view_is c.in-Semi.is c.pair_number-pair.ensures c.requires.order c.requires.elements c.index-in-Semi.ensures)
+    (held_here _ _ _ _ _ _ _ _ _ c.self.invariant.semi_table c.self.view_is c.in-Semi.is c.pair_number-pair.ensures c.requires.order c.requires.elements
+    c.index-in-Semi.ensures)

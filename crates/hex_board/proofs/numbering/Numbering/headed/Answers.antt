@@ -17,7 +17,8 @@ returns-then-has c =
     ∙ (sym c.has.ensures ∙ c.if-has.true) in
     λ k. (
       (λ h. subst (λ v. element_of c.args.self.now v ≡ Some (head_element c.args.self.now c.args.head))
-          (sym (single_out c.with.result c.none.result c.args.head k (c.with.ensures.items k) (c.none.ensures.items k) h)) (of_free c.args.self.now c.args.head here)),
+          (sym (single_out c.with.result c.none.result c.args.head k (c.with.ensures.items k) (c.none.ensures.items k) h))
+          (of_free c.args.self.now c.args.head here)),
       (λ q. elim (head_out c.args.self.now c.self.inside.heads c.args.head k i.on_board i.headed c.requires q) [
         | inl t ↦ single_in c.with.result c.none.result c.args.head k (c.with.ensures.items k) t.1
         | inr t ↦ absurd (both_ways (is_empty_at c.args.self.now.board c.args.head) t.0 here)

@@ -20,4 +20,8 @@ pub returns : goal.returns
 returns c =
     let i : IsTabled c.args.self.now c.self.inside.parts c.self.inside.reaches
     = subst (λ v. IsTabled v c.self.inside.parts c.self.inside.reaches) c.self.view_is c.self.invariant in
-    λ k. read (HasCell c.args.self.now) c.self.inside.parts c.args.element c.index-self-element.result k (omega (arith, i.few, c.requires)) (i.held c.args.element k c.requires)
+    λ k. read (HasCell c.args.self.now) c.self.inside.parts c.args.element c.index-self-element.result k (omega (
+      arith,
+      i.few,
+      c.requires,
+    )) (i.held c.args.element k c.requires)

@@ -33,6 +33,14 @@ returns c =
     let i : IsTabled c.args.self.now c.self.inside.parts c.self.inside.reaches
     = subst (λ v. IsTabled v c.self.inside.parts c.self.inside.reaches) c.self.view_is c.self.invariant in
     sets_meet c.args.self.now c.args.x c.args.y _ _ c.meets.result
-    (λ k. read (Reaches c.args.self.now) c.self.inside.reaches c.args.x c.index-self-x.result k (omega (arith, i.few, c.requires.x)) (i.reached c.args.x k c.requires.x))
-    (λ k. read (HasCell c.args.self.now) c.self.inside.parts c.args.y c.index-self-y.result k (omega (arith, i.few, c.requires.y)) (i.held c.args.y k c.requires.y))
+    (λ k. read (Reaches c.args.self.now) c.self.inside.reaches c.args.x c.index-self-x.result k (omega (
+      arith,
+      i.few,
+      c.requires.x,
+    )) (i.reached c.args.x k c.requires.x))
+    (λ k. read (HasCell c.args.self.now) c.self.inside.parts c.args.y c.index-self-y.result k (omega (
+      arith,
+      i.few,
+      c.requires.y,
+    )) (i.held c.args.y k c.requires.y))
     c.meets.ensures

@@ -17,6 +17,20 @@ returns c = λ d.
     let b = c.get-by.result - 1 in
     let q : c.get-by.result - 1 ≡ c.args.size - 1 = ap (λ v. v - 1) c.get-by.ensures.value in
     let e : has c.meet.result d ≡ gathered c.args.size c.all-all.result c.meet-here.result c.minus-left.result c.minus-right.result d =
-    cc (q, c.meet.ensures.items d, c.union-5.ensures.items d, c.union-4.ensures.items d, c.union-3.ensures.items d, c.up-east.ensures d, c.down-west.ensures d, c.up-south.ensures d, c.union.ensures.items (d - b), c.up.ensures (d - b), c.down-north.ensures d, c.union-2.ensures.items (d + b), c.down.ensures (d + b)) in
+    cc (
+      q,
+      c.meet.ensures.items d,
+      c.union-5.ensures.items d,
+      c.union-4.ensures.items d,
+      c.union-3.ensures.items d,
+      c.up-east.ensures d,
+      c.down-west.ensures d,
+      c.up-south.ensures d,
+      c.union.ensures.items (d - b),
+      c.up.ensures (d - b),
+      c.down-north.ensures d,
+      c.union-2.ensures.items (d + b),
+      c.down.ensures (d + b),
+    ) in
     let f = e ∙ gathered_moved _ _ _ _ _ _ d k in
     (λ h. around_out _ _ _ _ _ _ d k (sym f ∙ h), λ b. f ∙ around_in _ _ _ _ _ _ d b.0 k b.1 b.2)

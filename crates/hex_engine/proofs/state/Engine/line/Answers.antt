@@ -11,7 +11,8 @@ returns-in_default-clause-reply g c =
     record {
       used = nothing_left;
       uses = uses_nothing _ _ _;
-      reacts = λ later. unknown_reply c.args.self.now later c.args.request.now c.as_slice.result.now c.as_slice.ensures (sym c.named.ensures ∙ c.in_default.is);
+      reacts = λ later. unknown_reply c.args.self.now later c.args.request.now c.as_slice.result.now c.as_slice.ensures (sym c.named.ensures
+          ∙ c.in_default.is);
       brief = inl refl;
     }
 

@@ -20,8 +20,11 @@ returns-in-Some-clause-err c =
     = leads_to_replay _ _ _ _ c.self.invariant.0 in
     let refusal_is : refusal_on c.self.inside.start c.self.inside.steps.items c.self.inside.board
     (record { colour = c.args.colour; what = c.args.what }) ≡ Some c.in-Some.cause =
-    rw (← c.deref.ensures.value) (sym c.cause_against.ensures ∙ c.in-Some.is) in
-    (same_rule _ _ _ c.args.self.now _ c.self.view_is at ∙ refused c.self.inside.start c.self.inside.steps.items c.self.inside.board c.args.colour c.args.what c.in-Some.cause refusal_is, refl)
+    rw (← c.deref.ensures.value) (sym c.cause_against.ensures ∙ c.in-Some.is) in (
+      same_rule _ _ _ c.args.self.now _ c.self.view_is at ∙ refused c.self.inside.start c.self.inside.steps.items c.self.inside.board c.args.colour c.args.what
+          c.in-Some.cause refusal_is,
+      refl,
+    )
 
 pub returns-in-Some-clause-cause : goal.returns-in-Some-clause-cause
 returns-in-Some-clause-cause c =
@@ -56,7 +59,8 @@ invariant_of-self c =
     = rw c.deref-2.ensures.value
     (few_on c.self.inside.start [] c.self.inside.start _ _ c.self.inside.board c.self.invariant.0) in
     let legal : is_legal_on c.self.inside.start c.self.inside.steps.items c.self.inside.board step ≡ true =
-    allowed c.self.inside.start c.self.inside.steps.items c.self.inside.board c.args.colour c.args.what (rw (← c.deref.ensures.value) (sym c.cause_against.ensures ∙ c.in_default.is)) in
+    allowed c.self.inside.start c.self.inside.steps.items c.self.inside.board c.args.colour c.args.what
+    (rw (← c.deref.ensures.value) (sym c.cause_against.ensures ∙ c.in_default.is)) in
     let steps_are : c.push.new.self.items ≡ c.self.inside.steps.items ++ step ∷ []
     = rw c.unwrap.ensures at c.push.ensures.items in
     let boards_are : c.push-2.new.self.items ≡ c.self.inside.before.items ++ c.self.inside.board ∷ [] = rw c.unwrap-2.ensures at c.push-2.ensures.items in
@@ -66,7 +70,8 @@ invariant_of-self c =
     let fewer : IsFew c.push.new.self.items c.board_after-next.result =
     rw (steps_are, length-append)
     (omega (arith, ap length c.deref-2.ensures.value, c.board_after-next.ensures.few few)) in (
-      one_more c.self.inside.start c.self.inside.steps.items c.push.new.self.items c.self.inside.before.items c.push-2.new.self.items c.self.inside.board c.board_after-next.result step
+      one_more c.self.inside.start c.self.inside.steps.items c.push.new.self.items c.self.inside.before.items c.push-2.new.self.items c.self.inside.board
+          c.board_after-next.result step
           c.self.invariant.0 legal next_is fewer steps_are boards_are,
       omega (arith, c.push.ensures.capacity, c.self.invariant.1),
       omega (arith, c.push-2.ensures.capacity, c.self.invariant.2),
@@ -78,7 +83,8 @@ returns-clause-ok c =
     let at : c.self.inside.board ≡ replay c.self.inside.start c.self.inside.steps.items
     = leads_to_replay _ _ _ _ c.self.invariant.0 in
     let legal : is_legal_on c.self.inside.start c.self.inside.steps.items c.self.inside.board step ≡ true =
-    allowed c.self.inside.start c.self.inside.steps.items c.self.inside.board c.args.colour c.args.what (rw (← c.deref.ensures.value) (sym c.cause_against.ensures ∙ c.in_default.is)) in
+    allowed c.self.inside.start c.self.inside.steps.items c.self.inside.board c.args.colour c.args.what
+    (rw (← c.deref.ensures.value) (sym c.cause_against.ensures ∙ c.in_default.is)) in
     let steps_are : c.push.new.self.items ≡ c.self.inside.steps.items ++ step ∷ []
     = rw c.unwrap.ensures at c.push.ensures.items in (
       same_rule _ _ _ c.args.self.now step c.self.view_is at ∙ legal,

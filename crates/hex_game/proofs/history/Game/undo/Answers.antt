@@ -7,7 +7,8 @@ use Rattle.hex_game.proofs.history.Game.undo.Goals as goal
 
 pub invariant_of-self-in-Some-pop : goal.invariant_of-self-in-Some-pop
 invariant_of-self-in-Some-pop c = (
-  one_less c.self.inside.start c.self.inside.steps.items c.pop.new.self.items c.self.inside.before.items c.pop-2.new.self.items c.self.inside.board c.in-Some-pop.before c.in-Some.field-0
+  one_less c.self.inside.start c.self.inside.steps.items c.pop.new.self.items c.self.inside.before.items c.pop-2.new.self.items c.self.inside.board
+      c.in-Some-pop.before c.in-Some.field-0
       c.in-Some.ensures.items c.in-Some-pop.ensures.items c.self.invariant.0,
   rw c.pop.ensures.capacity c.self.invariant.1,
   rw c.pop-2.ensures.capacity c.self.invariant.2,

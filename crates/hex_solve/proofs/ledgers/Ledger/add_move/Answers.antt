@@ -21,8 +21,10 @@ add-requires-2 c = λ l.
     (room_had c.args.self.now c.add.new.self (Put c.scope-scope.result) c.in_ok-add.ensures l) in (
       follows_second c.args.self.now c.add.new.self (Put c.scope-scope.result)
           (Move c.args.cell c.args.line) w c.in_ok-add.ensures
-          (λ y. (move_two c.args.self.now c.args.board.now c.scope-scope.result c.args.cell c.args.line c.requires.keeps c.scope-scope.ensures c.requires.empty c.requires.shows y).0) l,
-      subst (λ (b : PlayerBoard). IsLineOf SECOND_VERSION b.board.size (Move c.args.cell c.args.line)) (sym (base_kept c.args.self.now c.add.new.self (Put c.scope-scope.result) c.in_ok-add.ensures))
+          (λ y. (move_two c.args.self.now c.args.board.now c.scope-scope.result c.args.cell c.args.line c.requires.keeps c.scope-scope.ensures
+          c.requires.empty c.requires.shows y).0) l,
+      subst (λ (b : PlayerBoard). IsLineOf SECOND_VERSION b.board.size (Move c.args.cell c.args.line))
+          (sym (base_kept c.args.self.now c.add.new.self (Put c.scope-scope.result) c.in_ok-add.ensures))
           (move_form c.args.self.now c.args.board.now c.args.cell c.args.line w c.requires.keeps c.requires.empty c.requires.shows z),
     )
 
@@ -34,7 +36,8 @@ returns-clause-shows c =
     shown_second c.args.self.now c.add.new.self c.add-2.new.self c.args.board.now Semi
     (Put c.scope-scope.result) (Move c.args.cell c.args.line)
     (c.len.result + 1) c.in_ok-add.ensures c.in_ok-add-2.ensures (ap (λ v. v + 1) number)
-    (λ z. move_two c.args.self.now c.args.board.now c.scope-scope.result c.args.cell c.args.line c.requires.keeps c.scope-scope.ensures c.requires.empty c.requires.shows z)
+    (λ z. move_two c.args.self.now c.args.board.now c.scope-scope.result c.args.cell c.args.line c.requires.keeps c.scope-scope.ensures c.requires.empty
+    c.requires.shows z)
 
 pub returns-clause-grows : goal.returns-clause-grows
 returns-clause-grows c = grows_second c.args.self.now c.add.new.self c.add-2.new.self

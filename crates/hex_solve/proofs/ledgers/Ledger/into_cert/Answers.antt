@@ -16,4 +16,7 @@ returns-then-self-eq0 c =
 
 pub returns-else-self-eq0 : goal.returns-else-self-eq0
 returns-else-self-eq0 c
-    = too_many c.args.self _ c.saturating_add.result c.len.result c.self.view_is c.self.invariant c.if-self-eq0.false (omega (arith, c.len.ensures)) c.saturating_add.ensures
+    = too_many c.args.self _ c.saturating_add.result c.len.result c.self.view_is c.self.invariant c.if-self-eq0.false (omega (
+      arith,
+      c.len.ensures,
+    )) c.saturating_add.ensures

@@ -22,7 +22,8 @@ invariant_of-self-2 c =
     filled_within
     (λ q. q.items) c.self.inside.queues.items c.self.inside.least c.first_filled-place.result f
     (λ e. c.if-place-len.false (e ∙ k)) in
-    queued_set (λ q. q.items) c.self.inside.queues.items c.self.inside.least c.first_filled-place.result c.first_filled-place.result c.pop_front.new.self c.self.invariant (omega arith)
+    queued_set (λ q. q.items) c.self.inside.queues.items c.self.inside.least c.first_filled-place.result c.first_filled-place.result c.pop_front.new.self
+    c.self.invariant (omega arith)
     (place_below (λ q. q.items) c.self.inside.queues.items c.self.inside.least c.first_filled-place.result c.self.invariant l)
     (below_filled (map (λ q. q.items) c.self.inside.queues.items) c.self.inside.least c.first_filled-place.result c.self.invariant f)
 
@@ -36,5 +37,7 @@ returns c =
     filled_within
     (λ q. q.items) c.self.inside.queues.items c.self.inside.least c.first_filled-place.result f
     (λ e. c.if-place-len.false (e ∙ k)) in
-    queue_take (λ q. q.items) c.self.inside.queues.items c.first_filled-place.result c.pop_front.new.self c.index_mut.result.now c.pop_front.result c.index_mut.result.now.len c.args.self.now _ l
-    (sym c.index_mut.ensures.value) c.pop_front.ensures.items c.index_mut.result.now.ok.0 c.pop_front.ensures.variant (filled_at (λ q. q.items) c.self.inside.queues.items c.self.inside.least c.first_filled-place.result f l) c.self.view_is refl
+    queue_take (λ q. q.items) c.self.inside.queues.items c.first_filled-place.result c.pop_front.new.self c.index_mut.result.now c.pop_front.result
+    c.index_mut.result.now.len c.args.self.now _ l
+    (sym c.index_mut.ensures.value) c.pop_front.ensures.items c.index_mut.result.now.ok.0 c.pop_front.ensures.variant
+    (filled_at (λ q. q.items) c.self.inside.queues.items c.self.inside.least c.first_filled-place.result f l) c.self.view_is refl

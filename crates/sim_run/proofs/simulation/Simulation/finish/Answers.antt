@@ -24,7 +24,8 @@ rounds-preserved c =
 pub rounds-smaller : goal.rounds-smaller
 rounds-smaller c =
     let some : c.round.result ≡ true = search rules in
-    subst (λ (s : Setting). steps_to_come s (data_of c.round.new.self) < steps_to_come s (data_of c.rounds.self)) c.rounds.invariant.shape (c.round.ensures.some some)
+    subst (λ (s : Setting). steps_to_come s (data_of c.round.new.self) < steps_to_come s (data_of c.rounds.self)) c.rounds.invariant.shape
+    (c.round.ensures.some some)
 
 pub returns-then-not-round-clause-rounds : goal.returns-then-not-round-clause-rounds
 returns-then-not-round-clause-rounds c =

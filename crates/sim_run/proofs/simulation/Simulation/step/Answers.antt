@@ -30,13 +30,15 @@ pub apply-answer-requires-clause-within : goal.apply-answer-requires-clause-with
 apply-answer-requires-clause-within c =
     let w : Walker = c.index.result.now in
     (can-apply c.args.self.now.shape c.args.self.now.words.items c.args.self.now.walkers.items c.requires.underway c.args.id w
-    (at-index c.args.self.now.walkers.items c.args.id w c.requires.id c.index.ensures) c.op-op.result c.op-op.ensures.is c.deref_mut.result.now c.deref_mut.ensures.value).0
+    (at-index c.args.self.now.walkers.items c.args.id w c.requires.id c.index.ensures) c.op-op.result c.op-op.ensures.is c.deref_mut.result.now
+    c.deref_mut.ensures.value).0
 
 pub apply-answer-requires-clause-room : goal.apply-answer-requires-clause-room
 apply-answer-requires-clause-room c =
     let w : Walker = c.index.result.now in
     (can-apply c.args.self.now.shape c.args.self.now.words.items c.args.self.now.walkers.items c.requires.underway c.args.id w
-    (at-index c.args.self.now.walkers.items c.args.id w c.requires.id c.index.ensures) c.op-op.result c.op-op.ensures.is c.deref_mut.result.now c.deref_mut.ensures.value).1
+    (at-index c.args.self.now.walkers.items c.args.id w c.requires.id c.index.ensures) c.op-op.result c.op-op.ensures.is c.deref_mut.result.now
+    c.deref_mut.ensures.value).1
 
 -- the walker is lent twice
 same-op : (walkers : List Walker) (id : ℕ) (w u : Walker) (op : Op) → id < length walkers
@@ -48,7 +50,8 @@ pub got-requires : goal.got-requires
 got-requires c =
     let walkers = c.args.self.now.walkers.items in
     let w : Walker = c.index_mut.result.now in
-    may-take c.args.self.now.shape c.args.self.now.words.items walkers c.requires.underway c.args.id w (at-index walkers c.args.id w c.requires.id c.index_mut.ensures.value)
+    may-take c.args.self.now.shape c.args.self.now.words.items walkers c.requires.underway c.args.id w
+    (at-index walkers c.args.id w c.requires.id c.index_mut.ensures.value)
     c.op-op.result
     (same-op walkers c.args.id c.index.result.now w c.op-op.result c.requires.id c.index.ensures c.index_mut.ensures.value c.op-op.ensures.is)
     c.deref_mut.result.now c.deref_mut.ensures.value c.apply-answer.result c.apply-answer.ensures.answer
@@ -59,7 +62,8 @@ at : (c : goal.After-self-2-1)
 at c = at-index c.args.self.now.walkers.items c.args.id c.index_mut.result.now c.requires.id c.index_mut.ensures.value
 
 is : (c : goal.After-self-2-1) → c.op-op.result ≡ op_of c.index_mut.result.now
-is c = same-op c.args.self.now.walkers.items c.args.id c.index.result.now c.index_mut.result.now c.op-op.result c.requires.id c.index.ensures c.index_mut.ensures.value c.op-op.ensures.is
+is c = same-op c.args.self.now.walkers.items c.args.id c.index.result.now c.index_mut.result.now c.op-op.result c.requires.id c.index.ensures
+    c.index_mut.ensures.value c.op-op.ensures.is
 
 now-is : (c : goal.After-self-2-1)
     → take c.args.self.now.words.len

@@ -38,7 +38,8 @@ pub invariant_of-self : goal.invariant_of-self
 invariant_of-self c =
     let few : c.args.at < c.self.inside.len
     = omega (arith, c.requires.at, ap length c.self.view_is, entries_long 0 c.self.inside.len c.self.inside.slots.items) in
-    slots_set c.self.inside.len c.self.inside.slots.items c.self.invariant c.args.at few c.args.number (4 * c.args.number + c.args.at % 4) c.requires.least refl
+    slots_set c.self.inside.len c.self.inside.slots.items c.self.invariant c.args.at few c.args.number (4 * c.args.number
+    + c.args.at % 4) c.requires.least refl
 
 pub returns : goal.returns
 returns c =

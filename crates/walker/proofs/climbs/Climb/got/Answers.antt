@@ -20,7 +20,10 @@ returns c =
     let n = c.self.inside.next in
     let won = c.self.inside.won in
     ap adds_after
-    (sym (sym c.self.view_is ∙ ap (λ adds. adds ++ half_adds n.first won n.cells n.left) (next-in h.first won h.cells h.left (omega (arith, c.if-left-eq0.false)) (omega arith))))
+    (sym (sym c.self.view_is ∙ ap (λ adds. adds ++ half_adds n.first won n.cells n.left) (next-in h.first won h.cells h.left (omega (
+      arith,
+      c.if-left-eq0.false,
+    )) (omega arith))))
 
 pub returns-then-rest-eq0 : goal.returns-then-rest-eq0
 returns-then-rest-eq0 c =

@@ -47,7 +47,8 @@ returns c =
     ∙ (ap (λ s. get_or (listed w.shape.board.size s) c.best-place.result 0) (sym c.cells-cells.ensures.value)
     ∙ nth-cell c.cells-cells.result w.shape.board.size c.nth-cell.result c.best-place.result
     (c.cells-cells.ensures.within c.requires.size) c.nth-cell.ensures.inside c.nth-cell.ensures.order) in
-    let way : c.push.new.self ≡ record { parent = w.node; block = w.start; cells = set_in w } ∷ w.way = c.push.ensures ∙ ap (λ s. record { parent = w.node; block = w.start; cells = s } ∷ w.way) c.cells-cells.ensures.value in
+    let way : c.push.new.self ≡ record { parent = w.node; block = w.start; cells = set_in w } ∷ w.way = c.push.ensures
+    ∙ ap (λ s. record { parent = w.node; block = w.start; cells = s } ∷ w.way) c.cells-cells.ensures.value in
     let board : c.place.new.self ≡ placed w.board w.player (get_or (cells_in w) w.scan.best 0)
     = c.place.ensures ∙ ap (placed w.board w.player) (sym cell) in
     c.stand.ensures ∙ (λ i. at_node (record w {

@@ -8,7 +8,12 @@ use Rattle.walker.proofs.scans.Scan.got.Goals as goal
 
 pub overflow_add-self-in-Seen : goal.overflow_add-self-in-Seen
 overflow_add-self-in-Seen c =
-    omega (arith, ap (λ (z : ScanData). z.at) (c.self-in-Seen.view_is ∙ c.keep.ensures), kept-at c.args.self.now (child_in c.args.self.now c.args.answer), c.requires.at)
+    omega (
+      arith,
+      ap (λ (z : ScanData). z.at) (c.self-in-Seen.view_is ∙ c.keep.ensures),
+      kept-at c.args.self.now (child_in c.args.self.now c.args.answer),
+      c.requires.at,
+    )
 
 pub returns-in-Seen : goal.returns-in-Seen
 returns-in-Seen c =
