@@ -12,7 +12,7 @@ use std::alloc::{AllocError, Global};
 pub(crate) const MOST_NEEDS: usize = 4_000_000;
 
 /// A line of a scope, by the list where it stands, and its place there.
-#[derive(Clone, Copy, Debug, PartialEq, Eq)]
+#[derive(Clone, Copy, PartialEq, Eq)]
 pub(crate) enum At {
     /// Among the lines that are derived.
     Derived(usize),
@@ -23,7 +23,7 @@ pub(crate) enum At {
 }
 
 /// What a scope is to show: an entry of a kind inside a region.
-#[derive(Clone, Copy, Debug, PartialEq, Eq)]
+#[derive(Clone, Copy, PartialEq, Eq)]
 pub(crate) struct Need {
     /// Its own place among the needs.
     pub place: usize,
@@ -36,7 +36,7 @@ pub(crate) struct Need {
 }
 
 /// A stone by which the player wins.
-#[derive(Clone, Copy, Debug, PartialEq, Eq)]
+#[derive(Clone, Copy, PartialEq, Eq)]
 pub(crate) struct Stone {
     pub cell: Cell,
     /// The need that shows it, in the scope with this stone more.

@@ -10,7 +10,7 @@ use indexmap::IndexMap;
 use std::alloc::{AllocError, Global};
 
 // An entry: its ends, and the bits of its carrier and of the stones that it uses beside the root's.
-#[derive(Clone, Copy, Debug, PartialEq, Eq, Hash)]
+#[derive(Clone, Copy, PartialEq, Eq, Hash)]
 struct Fact {
     is_semi: bool,
     ends: [End; 2],

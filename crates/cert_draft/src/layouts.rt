@@ -7,7 +7,7 @@ use hex_cells::{Cell, CellSet};
 use std::alloc::{AllocError, Global};
 
 /// How a line follows from those that it takes.
-#[derive(Clone, Copy, Debug, PartialEq, Eq)]
+#[derive(Clone, Copy, PartialEq, Eq)]
 pub(crate) enum How {
     /// It takes none: the elements lie side by side.
     Adj(End, End),
@@ -20,7 +20,7 @@ pub(crate) enum How {
 }
 
 /// A line: the player's stones in its scope, and the places of the lines before it that it takes.
-#[derive(Debug, Drop)]
+#[derive(Drop)]
 pub(crate) struct Row {
     pub stones: CellSet,
     pub how: How,

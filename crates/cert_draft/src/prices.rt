@@ -15,7 +15,7 @@ const NEW_SCOPE: u64 = 60 * LINE;
 const OF_ENTRY: u64 = 30 * LINE / 100;
 
 /// A semi entry that a scope may show: by a derivation, or by a stone.
-#[derive(Clone, Copy, Debug, PartialEq, Eq)]
+#[derive(Clone, Copy, PartialEq, Eq)]
 pub(crate) enum By {
     /// The derived entry with this number.
     Derived(usize),
@@ -24,7 +24,7 @@ pub(crate) enum By {
 }
 
 /// A semi entry that a scope may show.
-#[derive(Clone, Copy, Debug, PartialEq, Eq)]
+#[derive(Clone, Copy, PartialEq, Eq)]
 pub(crate) struct Way {
     pub carrier: CellSet,
     pub by: By,

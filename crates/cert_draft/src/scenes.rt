@@ -24,7 +24,7 @@ pub(crate) struct Scene {
 }
 
 /// How a full entry is shown.
-#[derive(Clone, Copy, Debug, PartialEq, Eq)]
+#[derive(Clone, Copy, PartialEq, Eq)]
 pub(crate) enum Shown {
     /// By the derived entry with this number.
     Derived(usize),

@@ -34,7 +34,7 @@ impl Iterator for Cells {
 }
 
 // An element: its cells, and those of the board that lie beside it, with those of its edge.
-#[derive(Clone, Copy, Debug)]
+#[derive(Clone, Copy)]
 struct Element {
     cells: CellSet,
     near: CellSet,

@@ -78,7 +78,7 @@ pub enum End {
 }
 
 /// What becomes of an entry.
-#[derive(Clone, Copy, Debug, PartialEq, Eq)]
+#[derive(Clone, Copy, PartialEq, Eq)]
 pub(crate) enum State {
     /// It is not yet combined with others.
     Waiting,

@@ -43,7 +43,7 @@ pub enum Until {
 }
 
 // A full entry as its one end sees it: the carrier, the number and the other end.
-#[derive(Clone, Copy, Debug)]
+#[derive(Clone, Copy)]
 struct Way {
     carrier: CellSet,
     number: u32,

@@ -5,7 +5,7 @@ use super::found::Found;
 use std::alloc::{AllocError, Global};
 
 // A step of a walk through premises.
-#[derive(Clone, Copy, Debug, PartialEq, Eq)]
+#[derive(Clone, Copy, PartialEq, Eq)]
 enum Step {
     // To an entry, before its premises.
     Enter(u32),

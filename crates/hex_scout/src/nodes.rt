@@ -12,7 +12,7 @@ pub(crate) const NEVER: u32 = 1 << 30;
 
 /// The proof number and the disproof number of a node: how many nodes at least are still to be
 /// decided until the player to move is shown to win, and to lose.
-#[derive(Clone, Copy, Debug, PartialEq, Eq)]
+#[derive(Clone, Copy, PartialEq, Eq)]
 pub(crate) struct Effort {
     pub proof: u32,
     pub disproof: u32,
@@ -32,7 +32,7 @@ impl Effort {
 }
 
 /// A state that was entered, with its cells in the order in which they are tried.
-#[derive(Debug, Drop)]
+#[derive(Drop)]
 pub(crate) struct ScoutNode {
     pub effort: Effort,
     pub cells: Vec<Cell>,

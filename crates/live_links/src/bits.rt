@@ -6,7 +6,7 @@ use hex_cells::{CellSet, MOST_CELLS};
 const HIGH_BITS: u32 = MOST_CELLS - u64::BITS;
 
 /// A set of elements, or of the cells of a carrier.
-#[derive(Clone, Copy, Debug, PartialEq, Eq)]
+#[derive(Clone, Copy, PartialEq, Eq)]
 pub(crate) struct Bits {
     pub low: u64,
     pub high: u64,

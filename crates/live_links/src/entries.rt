@@ -19,7 +19,7 @@ pub(crate) const PAIRS: usize = MOST_ELEMENTS * (MOST_ELEMENTS + 1);
 pub(crate) const NOBODY: u16 = u16::MAX;
 
 /// Two elements, the lesser one first, and a kind of entry.
-#[derive(Clone, Copy, Debug, PartialEq, Eq)]
+#[derive(Clone, Copy, PartialEq, Eq)]
 pub(crate) struct Pair {
     pub x: u8,
     pub y: u8,
@@ -49,7 +49,7 @@ impl Pair {
 }
 
 /// What became of an entry.
-#[derive(Clone, Copy, Debug, PartialEq, Eq)]
+#[derive(Clone, Copy, PartialEq, Eq)]
 pub(crate) enum State {
     /// It is to be combined with others.
     Waiting,
@@ -60,7 +60,7 @@ pub(crate) enum State {
 }
 
 /// A connection of two elements.
-#[derive(Clone, Copy, Debug, PartialEq, Eq)]
+#[derive(Clone, Copy, PartialEq, Eq)]
 pub(crate) struct Entry {
     pub carrier: Bits,
     pub pair: Pair,

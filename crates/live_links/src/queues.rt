@@ -7,7 +7,7 @@ use super::entries::{Entry, NOBODY};
 const SIZES: usize = 256;
 
 /// A list for each number of cells; the entries themselves say which is the next one.
-#[derive(Clone, Copy, Debug)]
+#[derive(Clone, Copy)]
 pub(crate) struct Queue {
     first: [u16; SIZES],
     last: [u16; SIZES],

@@ -7,7 +7,7 @@ use hex_cells::Cell;
 use std::ops::Range;
 
 /// What is known of a node, for the player to move.
-#[derive(Clone, Copy, Debug, PartialEq, Eq)]
+#[derive(Clone, Copy, PartialEq, Eq)]
 pub(crate) enum State {
     Open,
     Won,
@@ -15,7 +15,7 @@ pub(crate) enum State {
 }
 
 /// A board that was judged.
-#[derive(Clone, Copy, Debug, PartialEq, Eq)]
+#[derive(Clone, Copy, PartialEq, Eq)]
 pub(crate) struct LookNode {
     /// The board, on which cells were filled.
     pub board: Board,
@@ -35,7 +35,7 @@ pub(crate) struct LookNode {
 }
 
 /// A cell on which the player to move at a node may place.
-#[derive(Clone, Copy, Debug, PartialEq, Eq)]
+#[derive(Clone, Copy, PartialEq, Eq)]
 pub(crate) struct Kid {
     pub cell: Cell,
     pub prior: u32,

@@ -15,7 +15,7 @@ const MOST_KEPT: usize = 320;
 pub(crate) const NOWHERE: u32 = u32::MAX;
 
 /// What is known of a board, for the player to move.
-#[derive(Clone, Copy, Debug, PartialEq, Eq)]
+#[derive(Clone, Copy, PartialEq, Eq)]
 pub(crate) enum Verdict {
     Won,
     Lost,
