@@ -3,8 +3,7 @@ use Rattle.std.proofs.Common.{◌≡◌, ◌≢◌, ℕ, ◌+◌, ◌-◌, ◌<�
 use Rattle.std.proofs.Common.{None, Option}
 use Rattle.std.specs.Prelude.{◌||◌}
 use Rattle.tree_words.specs.declared.steps.Op.{Op}
-use Rattle.tree_words.specs.declared.steps.Op.TheVariants.{Draw, Look, Claim, Write, Publish, Add}
-use Rattle.tree_words.specs.declared.steps.Op.TheVariants.{Note, Done}
+use Rattle.tree_words.specs.declared.steps.Op.TheVariants.{Draw, Claim, Note}
 use Rattle.arena_rule.specs.Views.{SeatView}
 use Rattle.arena_rule.specs.Fits.{FitsStep}
 use Rattle.arena_rule.specs.Answers.{MayAnswer}
@@ -50,28 +49,10 @@ draws-same : (v : SeatView) (op : Op) (x : ℕ) → op ≢ Draw → FitsStep v o
     → draws_left (after v op x) ≡ draws_left v
 unfolding with_word looked wrote published added_at noted
 draws-same v Draw x nd fits = absurd (nd refl)
-draws-same v (Look i) x nd fits = refl
 draws-same v (Claim size) x nd fits = claimed_same draws_left v size x refl refl
-draws-same v (Write i value) x nd fits = refl
-draws-same v (Publish l b) x nd fits = refl
-draws-same v (Add i won) x nd fits = refl
 draws-same v (Note k value) x nd fits
     = sym (ap (λ (o : Option ℕ). draws_left (record v { ticket = o })) fits.ticket)
-draws-same v Done x nd fits = refl
-
--- 1 for a draw, else 0
-abbrev is-draw : Op → ℕ
-is-draw Draw = 1
-is-draw (Look i) = 0
-is-draw (Claim size) = 0
-is-draw (Write i value) = 0
-is-draw (Publish l b) = 0
-is-draw (Add i won) = 0
-is-draw (Note k value) = 0
-is-draw Done = 0
-
-no-draw : (op : Op) → is-draw op ≡ 0 → op ≢ Draw
-no-draw op z e = let q : is-draw op ≡ 1 = ap is-draw e in absurd (omega (arith, z, q))
+draws-same v op x nd fits = refl
 
 other : (w later : Walker) (v : SeatView) (op : Op) (x : ℕ) → op ≢ Draw → FitsStep v op
     → (op ≢ Draw → steps_left later < steps_left w) → work_left later (after v op x) < work_left w v
@@ -88,16 +69,4 @@ falls w later v Draw x fits may fewer bound =
     let d = draws-drawn v x fits may in
     let b = bound refl in
     omega (arith, d, b)
-falls w later v (Look i) x fits may fewer bound
-    = other w later v (Look i) x (no-draw (Look i) refl) fits fewer
-falls w later v (Claim size) x fits may fewer bound
-    = other w later v (Claim size) x (no-draw (Claim size) refl) fits fewer
-falls w later v (Write i value) x fits may fewer bound
-    = other w later v (Write i value) x (no-draw (Write i value) refl) fits fewer
-falls w later v (Publish l b) x fits may fewer bound
-    = other w later v (Publish l b) x (no-draw (Publish l b) refl) fits fewer
-falls w later v (Add i won) x fits may fewer bound
-    = other w later v (Add i won) x (no-draw (Add i won) refl) fits fewer
-falls w later v (Note k value) x fits may fewer bound
-    = other w later v (Note k value) x (no-draw (Note k value) refl) fits fewer
-falls w later v Done x fits may fewer bound = other w later v Done x (no-draw Done refl) fits fewer
+falls w later v op x fits may fewer bound = other w later v op x (λ e. absurd (cc)) fits fewer

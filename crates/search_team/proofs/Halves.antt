@@ -1,71 +1,49 @@
 -- Both parts of a fresh seat are fresh, and two seats that are done are done together.
-use Rattle.std.proofs.Common.{◌≡◌, ℕ, ◌+◌, ◌-◌, refl, sym, ap, ◌∙◌, subst, arith, [], None}
+use Rattle.std.proofs.Common.{◌≡◌, ℕ, ◌+◌, ◌-◌, refl, sym, ap, ◌∙◌, subst, arith, [], None, rules}
 use Rattle.arena_rule.specs.Views.{SeatView, HasDrawnNothing, HasEnded}
 use Rattle.arena_rule.specs.Afters.{kept_part, given_part, joined}
 use Rattle.arena_rule.specs.IsView.{IsView}
 use Rattle.tree_rule.specs.Seats.{TreeData, SeatData, IsOf}
 use Rattle.search_team.specs.Works.{IsFresh, IsDone}
 
-kept-nothing : (v : SeatView) (part : ℕ) → HasDrawnNothing v → HasDrawnNothing (kept_part v part)
+-- what is kept, and what is given, of a view that has drawn nothing
+record IsFreshPart (v : SeatView) (n : ℕ) : Type 0 where
+  width : v.width ≡ n
+  nothing : HasDrawnNothing v
+  lone : v.whole ≡ None
+
+kept-part : (v : SeatView) (part : ℕ) → HasDrawnNothing v
+    → IsFreshPart (kept_part v part) (v.width - part)
 unfolding kept_part
-kept-nothing v part h = record {
-  ticket = h.ticket;
-  adds = h.adds;
-  held = h.held;
-  ended = h.ended;
-  walks = h.walks;
-  full = h.full;
-  claimed = h.claimed;
-}
+kept-part v part h = record { width = refl; nothing = assumption h; lone = refl }
 
-kept-width : (v : SeatView) (part : ℕ) → (kept_part v part).width ≡ v.width - part
-unfolding kept_part
-kept-width v part = refl
+given-part : (v : SeatView) (part : ℕ) → IsFreshPart (given_part v part) part
+given-part v part = record { width = refl; nothing = search rules; lone = refl }
 
-given-nothing : (v : SeatView) (part : ℕ) → HasDrawnNothing (given_part v part)
-given-nothing v part = record {
-  ticket = refl;
-  adds = refl;
-  held = refl;
-  ended = refl;
-  walks = refl;
-  full = refl;
-  claimed = refl;
-}
-
--- no part of a split has a copy of the words
-kept-lone : (v : SeatView) (part : ℕ) → (kept_part v part).whole ≡ None
-unfolding kept_part
-kept-lone v part = refl
-
-given-lone : (v : SeatView) (part : ℕ) → (given_part v part).whole ≡ None
-given-lone v part = refl
-
-pub kept-fresh : (tree : TreeData) (seat kept : SeatData) (n part : ℕ) → IsFresh tree seat n
-    → IsOf tree kept
-    → kept.view ≡ kept_part seat.view part → IsView kept.view → kept.owed ≡ []
-    → IsFresh tree kept (n - part)
-kept-fresh tree seat kept n part fresh own is order owed = record {
+-- so a seat with such a view is fresh
+part-fresh : (tree : TreeData) (seat : SeatData) (v : SeatView) (n m : ℕ) → IsFreshPart v n → n ≡ m
+    → IsOf tree seat → seat.view ≡ v → IsView seat.view → seat.owed ≡ [] → IsFresh tree seat m
+part-fresh tree seat v n m part same own is order owed = record {
   own = own;
-  width = ap (λ (u : SeatView). u.width) is
-      ∙ (kept-width seat.view part ∙ ap (λ (m : ℕ). m - part) fresh.width);
-  nothing = subst HasDrawnNothing (sym is) (kept-nothing seat.view part fresh.nothing);
+  width = ap (λ (u : SeatView). u.width) is ∙ part.width ∙ same;
+  nothing = subst HasDrawnNothing (sym is) part.nothing;
   order = order;
   owed = owed;
-  lone = λ e. ap (λ (u : SeatView). u.whole) is ∙ kept-lone seat.view part;
+  lone = λ e. ap (λ (u : SeatView). u.whole) is ∙ part.lone;
 }
+
+pub kept-fresh : (tree : TreeData) (seat kept : SeatData) (n part : ℕ) → IsFresh tree seat n
+    → IsOf tree kept → kept.view ≡ kept_part seat.view part → IsView kept.view → kept.owed ≡ []
+    → IsFresh tree kept (n - part)
+kept-fresh tree seat kept n part fresh = part-fresh tree kept (kept_part seat.view part)
+    (seat.view.width - part) (n - part) (kept-part seat.view part fresh.nothing)
+    (ap (λ (m : ℕ). m - part) fresh.width)
 
 pub given-fresh : (tree : TreeData) (seat given : SeatData) (part : ℕ) → IsOf tree given
     → given.view ≡ given_part seat.view part → IsView given.view → given.owed ≡ []
     → IsFresh tree given part
-given-fresh tree seat given part own is order owed = record {
-  own = own;
-  width = ap (λ (u : SeatView). u.width) is;
-  nothing = subst HasDrawnNothing (sym is) (given-nothing seat.view part);
-  order = order;
-  owed = owed;
-  lone = λ e. ap (λ (u : SeatView). u.whole) is ∙ given-lone seat.view part;
-}
+given-fresh tree seat given part = part-fresh tree given (given_part seat.view part) part part
+    (given-part seat.view part) refl
 
 joined-width : (v w : SeatView) → (joined v w).width ≡ v.width + w.width
 unfolding joined

@@ -1,5 +1,5 @@
 -- A run of a walker over its view. No clause of a public call cites this.
-use Rattle.std.specs.Prelude.{◌≡◌, ◌≤◌, None}
+use Rattle.std.specs.Prelude.{◌≡◌, ◌<◌, ◌≤◌, None}
 use Rattle.arena_rule.specs.Views.{SeatView}
 use Rattle.walker.specs.Belongs.{Belongs}
 use Rattle.walker.specs.declared.machine.Walker.{Walker}
@@ -12,3 +12,8 @@ pub record HasRun (w : Walker) (v : SeatView) (later : Walker) (view : SeatView)
   pub belongs : Belongs later view
   pub left : work_left later view ≤ work_left w v
   pub lone : v.whole ≡ None → view.whole ≡ None
+
+-- and the steps are some: they leave it less to do
+pub record HasGone (w : Walker) (v : SeatView) (later : Walker) (view : SeatView) : Type 0 where
+  pub run : HasRun w v later view
+  pub fewer : work_left later view < work_left w v

@@ -5,8 +5,7 @@ ghost use Rattle.walker.specs.Machine.{with_climb};
 ghost use Rattle.walker.specs.Belongs.{Belongs, MakesStep};
 ghost use Rattle.walker.specs.declared.TheConstants.{PAST_WORDS};
 ghost use Rattle.tree_rule.specs.Seats.{IsOf};
-ghost use Rattle.search_team.specs.WorkLeft.{work_left};
-ghost use Rattle.search_team.specs.Runs.{HasRun};
+ghost use Rattle.search_team.specs.Runs.{HasRun, HasGone};
 ghost use Rattle.search_team.specs.Debts.{HoldsDebts};
 
 use super::holding::{Sums, make_or_owe};
@@ -30,11 +29,10 @@ fn add(
     requires debts { HoldsDebts tree.now.shape sums.old seat.old.owed }
     ensures own { IsOf tree.now seat.new }
     ensures debts { HoldsDebts tree.now.shape sums.new seat.new.owed }
-    ensures belongs { Belongs (with_climb walker.now climb.new) seat.new.view }
     ensures step { MakesStep (with_climb walker.now climb.old) seat.old.view
         (with_climb walker.now climb.new) seat.new.view }
-    ensures fewer { work_left (with_climb walker.now climb.new) seat.new.view
-        < work_left (with_climb walker.now climb.old) seat.old.view }
+    ensures gone { HasGone (with_climb walker.now climb.old) seat.old.view
+        (with_climb walker.now climb.new) seat.new.view }
     ensures node { walker.now.node < PAST_WORDS }
 {
     let _answer = make_or_owe(tree, seat, sums, climb.op());
@@ -42,6 +40,7 @@ fn add(
 }
 
 // Makes or owes the adds of the climb, which the walker lent, of the half in hand.
+#[tactic(auto, using(crate::proofs::Going::run_rules))]
 #[inline(always)]
 fn add_half(tree: &Tree, seat: &mut TreeSeat, walker: &Walker, climb: &mut Climb, sums: &mut Sums)
     requires own { IsOf tree.now seat.old }
@@ -63,6 +62,7 @@ fn add_half(tree: &Tree, seat: &mut TreeSeat, walker: &Walker, climb: &mut Climb
 
 /// If the walker adds to a block's seen words, makes or owes all its adds there, each half's in a
 /// loop of its own.
+#[tactic(auto, using(crate::proofs::SeenAdds::climb_rules))]
 #[inline(always)]
 pub(crate) fn make_seen_adds(tree: &Tree, seat: &mut TreeSeat, walker: &mut Walker, sums: &mut Sums)
     requires own { IsOf tree.now seat.old }

@@ -3,7 +3,6 @@
 ghost use Rattle.std.specs.Prelude.{◌≡◌};
 ghost use Rattle.walker.specs.Belongs.{Belongs};
 ghost use Rattle.tree_rule.specs.Seats.{IsOf};
-ghost use Rattle.search_team.specs.WorkLeft.{work_left};
 ghost use Rattle.search_team.specs.Runs.{HasRun};
 
 use super::stepping::step;
@@ -11,6 +10,7 @@ use tree_rule::{Tree, TreeSeat};
 use walker::Walker;
 
 /// If the walker looks at a block's header, makes all its looks there.
+#[tactic(auto, using(crate::proofs::Going::run_rules))]
 #[inline(always)]
 pub(crate) fn look_at_header(tree: &Tree, seat: &mut TreeSeat, walker: &mut Walker)
     requires own { IsOf tree.now seat.old }

@@ -7,8 +7,7 @@ ghost use Rattle.walker.specs.Choosing.{MayChoose};
 ghost use Rattle.walker.specs.declared.stages.Stage.TheVariants.{Scanning};
 ghost use Rattle.walker.specs.declared.scans.Phase.TheVariants.{Move};
 ghost use Rattle.tree_rule.specs.Seats.{IsOf};
-ghost use Rattle.search_team.specs.WorkLeft.{work_left};
-ghost use Rattle.search_team.specs.Runs.{HasRun};
+ghost use Rattle.search_team.specs.Runs.{HasRun, HasGone};
 
 use tree_rule::{Tree, TreeSeat};
 use walker::{Scan, Walker};
@@ -24,10 +23,8 @@ fn look_at_child(tree: &Tree, seat: &mut TreeSeat, walker: &Walker, scan: &mut S
     ensures own { IsOf tree.now seat.new }
     ensures owed { seat.new.owed ≡ seat.old.owed }
     ensures phase { scan.new.phase ≡ Move }
-    ensures run { HasRun (with_scan walker.now scan.old) seat.old.view
+    ensures gone { HasGone (with_scan walker.now scan.old) seat.old.view
         (with_scan walker.now scan.new) seat.new.view }
-    ensures fewer { work_left (with_scan walker.now scan.new) seat.new.view
-        < work_left (with_scan walker.now scan.old) seat.old.view }
     ensures last { scan.new.count ≤ scan.new.place
         → MayChoose (record walker.now { scan = scan.new }) }
 {
@@ -39,6 +36,7 @@ fn look_at_child(tree: &Tree, seat: &mut TreeSeat, walker: &Walker, scan: &mut S
 }
 
 // Makes looks at whole children until a child without visits is kept, or none is left.
+#[tactic(auto, using(crate::proofs::Going::run_rules))]
 #[inline(always)]
 fn look_while_choosing(tree: &Tree, seat: &mut TreeSeat, walker: &Walker, scan: &mut Scan)
     requires own { IsOf tree.now seat.old }
@@ -64,6 +62,7 @@ fn look_while_choosing(tree: &Tree, seat: &mut TreeSeat, walker: &Walker, scan: 
 ///
 /// After a child without visits none is chosen any more: that part of the looks has a loop of its
 /// own.
+#[tactic(auto, using(crate::proofs::ChildLooks::scan_rules))]
 #[inline(always)]
 pub(crate) fn look_at_children(tree: &Tree, seat: &mut TreeSeat, walker: &mut Walker)
     requires own { IsOf tree.now seat.old }

@@ -1,9 +1,6 @@
 //! One worker's loop.
 
 ghost use Rattle.std.specs.Prelude.{◌≡◌};
-ghost use Rattle.walker.specs.Belongs.{Belongs};
-ghost use Rattle.tree_rule.specs.Seats.{IsOf};
-ghost use Rattle.search_team.specs.WorkLeft.{work_left};
 ghost use Rattle.search_team.specs.Works.{IsFresh, IsDone};
 
 use super::climbing::make_seen_adds;
@@ -24,6 +21,7 @@ use walker::Walker;
 ///
 /// It takes no memory and never waits. The gate is passed as its trait says. It is a call of its
 /// own, so that a stack has one table of sums and not one for each half of a team.
+#[tactic(auto, using(crate::proofs::Going::run_rules))]
 #[inline(never)]
 pub fn work<G: Gate>(tree: &Tree, seat: &mut TreeSeat, shape: &Shape, worker: u32, gate: &G)
     requires shape { tree.now.shape ≡ shape.now }

@@ -6,8 +6,7 @@ ghost use Rattle.walker.specs.Belongs.{Belongs};
 ghost use Rattle.walker.specs.declared.TheConstants.{PAST_WORDS};
 ghost use Rattle.walker.specs.declared.stages.Stage.TheVariants.{Writing};
 ghost use Rattle.tree_rule.specs.Seats.{IsOf};
-ghost use Rattle.search_team.specs.WorkLeft.{work_left};
-ghost use Rattle.search_team.specs.Runs.{HasRun};
+ghost use Rattle.search_team.specs.Runs.{HasRun, HasGone};
 
 use tree_rule::{Tree, TreeSeat};
 use walker::{NewNodes, Walker};
@@ -23,10 +22,8 @@ fn write_node(tree: &Tree, seat: &mut TreeSeat, walker: &Walker, nodes: &mut New
     ensures own { IsOf tree.now seat.new }
     ensures owed { seat.new.owed ≡ seat.old.owed }
     ensures nodes { AreNodesOf walker.now nodes.new }
-    ensures run { HasRun (with_nodes walker.now nodes.old) seat.old.view
+    ensures gone { HasGone (with_nodes walker.now nodes.old) seat.old.view
         (with_nodes walker.now nodes.new) seat.new.view }
-    ensures fewer { work_left (with_nodes walker.now nodes.new) seat.new.view
-        < work_left (with_nodes walker.now nodes.old) seat.old.view }
     ensures node { walker.now.node < PAST_WORDS }
 {
     let (write_move, write_link, write_tally, write_seen) = nodes.node_ops();
@@ -38,6 +35,7 @@ fn write_node(tree: &Tree, seat: &mut TreeSeat, walker: &Walker, nodes: &mut New
 }
 
 /// If the walker has written the header of a new block and no node of it, writes all its nodes.
+#[tactic(auto, using(crate::proofs::NodeWrites::nodes_rules))]
 #[inline(always)]
 pub(crate) fn write_new_nodes(tree: &Tree, seat: &mut TreeSeat, walker: &mut Walker)
     requires own { IsOf tree.now seat.old }

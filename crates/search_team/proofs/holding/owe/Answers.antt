@@ -27,8 +27,7 @@ pub returns-clause-debts : goal.returns-clause-debts
 returns-clause-debts c =
     holds-owed c.args.tree.now.shape c.make_room.new.sums _ c.make_room.new.seat.owed c.owe.new.self.owed c.slot-i.result _ c.args.word c.args.won
     c.slot-i.ensures.inside c.make_room.ensures.debts (sym c.slot-i.ensures.is)
-    (ap (λ (l : List ℕ). slice_index l c.slot-i.result) c.make_room.ensures.words ∙ ap (slice_index c.args.sums.now.words) c.slot-i.ensures.is
-    ∙ c.requires.has)
+    (ap (λ (l : List ℕ). slice_index l c.slot-i.result) c.make_room.ensures.words ∙ ap (slice_index c.args.sums.now.words) c.slot-i.ensures.is ∙ c.requires.has)
     c.make_room.ensures.low (omega (arith, won-added c.from.result c.args.won c.from.ensures)) refl refl refl c.owe.ensures.owed
 
 pub returns-clause-answer : goal.returns-clause-answer

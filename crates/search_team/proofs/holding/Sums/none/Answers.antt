@@ -1,6 +1,5 @@
 -- Nothing is owed at first, and a part of what all hold is no more than that.
-use Rattle.std.proofs.Common.{◌≡◌, ℕ, ◌≤◌, ◌*◌, ◌/◌, refl, sym, ap, ◌∙◌, arith}
-use Rattle.tree_words.specs.Settings.{Setting}
+use Rattle.std.proofs.Common.{ℕ, ◌/◌, refl, sym, ap, ◌∙◌, arith}
 use Rattle.search_team.specs.declared.holding.TheConstants.{MOST_HELD}
 use Rattle.search_team.proofs.Debts.{holds-none}
 use Rattle.search_team.proofs.holding.Sums.none.Goals as goal
