@@ -2,8 +2,8 @@
 -- order of its own at the head of its proofs/Lib.antt.
 -- 1. What is claimed: src/top.rt. docs/trust/PROMISES.md says which definitions to read for it, and
 --    in which order.
--- 2. A session: one request by `hex_engine::Engine::line`, the conversation by
---    `htp_session::converse`.
+-- 2. A session: one request by `answer` and `obey_with` of `hex_engine::Engine`, the conversation
+--    by `htp_session::converse`.
 -- 3. The modes that take a whole input: `hex_devices::answer_input`, with src/whole_inputs.rt,
 --    certificates.rt, audits.rt and solutions.rt; proofs/SolvedTexts (what a solver says of a
 --    game's board) and InputEnds (what follows of how such a mode ends). What they answer is proved

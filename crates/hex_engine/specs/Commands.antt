@@ -6,15 +6,16 @@ use Rattle.hex_engine.specs.declared.commands.Command.{Command}
 use Rattle.hex_engine.specs.declared.commands.Command.TheVariants as command
 use Rattle.hex_engine.specs.declared.commands.Quiet.{Quiet}
 use Rattle.hex_engine.specs.declared.commands.Quiet.TheVariants as quiet
+use Rattle.hex_engine.specs.declared.commands.Using.TheVariants as using
 
 -- all of them, in the order in which `list_commands` names them
 abbrev pub commands : List Command
 commands = command.Quiet quiet.BoardSize
     ∷ command.Quiet quiet.ClearBoard
-    ∷ command.GenMove
+    ∷ command.Using using.GenMove
     ∷ command.Quiet quiet.KnownCommand
     ∷ command.Quiet quiet.ListCommands
-    ∷ command.LoadSgf
+    ∷ command.Using using.LoadSgf
     ∷ command.Quiet quiet.LookReport
     ∷ command.Quiet quiet.MustPlay
     ∷ command.Quiet quiet.Name
@@ -34,10 +35,10 @@ commands = command.Quiet quiet.BoardSize
 abbrev pub name_of : Command → List ℕ
 name_of (command.Quiet quiet.BoardSize) = codes "boardsize"
 name_of (command.Quiet quiet.ClearBoard) = codes "clear_board"
-name_of command.GenMove = codes "genmove"
+name_of (command.Using using.GenMove) = codes "genmove"
 name_of (command.Quiet quiet.KnownCommand) = codes "known_command"
 name_of (command.Quiet quiet.ListCommands) = codes "list_commands"
-name_of command.LoadSgf = codes "loadsgf"
+name_of (command.Using using.LoadSgf) = codes "loadsgf"
 name_of (command.Quiet quiet.LookReport) = codes "look-report"
 name_of (command.Quiet quiet.MustPlay) = codes "mustplay"
 name_of (command.Quiet quiet.Name) = codes "name"

@@ -14,16 +14,19 @@ use Rattle.hex_engine.specs.Replies.{unchanged, unused}
 use Rattle.hex_engine.specs.Supply.{Supply, and_then, nothing_left}
 use Rattle.hex_engine.specs.declared.answers.Answer.{Answer}
 use Rattle.hex_engine.specs.declared.answers.Answer.TheVariants as answer
+use Rattle.hex_engine.specs.declared.answers.Asked.{Asked}
+use Rattle.hex_engine.specs.declared.answers.Asked.TheVariants as asked
 use Rattle.hex_engine.specs.declared.answers.Fail.TheVariants.{UnknownCommand, ReadFault}
 use Rattle.hex_engine.specs.declared.commands.Command.{Command}
 use Rattle.hex_engine.specs.declared.commands.Command.TheVariants as command
+use Rattle.hex_engine.specs.declared.commands.Using.TheVariants as using
 
 -- what a command with these arguments does to a conversation
 abbrev pub obeyed : EngineState → Supply → Command → List (List ℕ) → Result Turned Missing
 obeyed engine left (command.Quiet quiet) args =
     unused left (in_conversation engine (quiet_reaction engine quiet args))
-obeyed engine left command.GenMove args = moving engine left args
-obeyed engine left command.LoadSgf args = loading engine left args
+obeyed engine left (command.Using using.GenMove) args = moving engine left args
+obeyed engine left (command.Using using.LoadSgf) args = loading engine left args
 
 -- what answers a request for this command, if it is built
 abbrev pub reaction_by : EngineState → Supply → Option Command → List (List ℕ)
@@ -40,8 +43,7 @@ reaction engine left request =
 abbrev pub is_quiet_command : Option Command → Bool
 is_quiet_command None = true
 is_quiet_command (Some (command.Quiet _)) = true
-is_quiet_command (Some command.GenMove) = false
-is_quiet_command (Some command.LoadSgf) = false
+is_quiet_command (Some (command.Using _)) = false
 
 -- whether a request uses nothing up
 abbrev pub is_quiet : Request → Bool
@@ -77,12 +79,15 @@ ReactsWith react used answer after = (later : Supply)
     → react (and_then used later)
     ≡ Ok (record { reply = replied answer; after = after; left = later })
 
--- The answer, if there is one, and what stands after it, are the reaction, for which nothing is
--- used up; with none all stands as before.
-abbrev pub AnsweredQuietly : EngineState → Request → EngineState → Option Answer → Type 0
-AnsweredQuietly engine request after None = after ≡ engine
-AnsweredQuietly engine request after (Some answer) =
-    ReactsWith (λ supply. reaction engine supply request) nothing_left answer after
+-- A request that uses nothing up came to its answer: with what stands after it, that is the
+-- reaction, and it tells no fault of the shelf. Every other request came to the command that it
+-- asks for, and all stands as before.
+abbrev pub ComesTo : EngineState → Request → EngineState → Asked → Type 0
+ComesTo engine request after (asked.Quiet answer) =
+    (is_quiet request ≡ true) × TellsNoFault answer
+    × ReactsWith (λ supply. reaction engine supply request) nothing_left answer after
+ComesTo engine request after (asked.Using what) =
+    (after ≡ engine) × (command_named request.name ≡ Some (command.Using what))
 
 -- the answer has no text longer than a vertex, or it is a failure
 abbrev pub IsBrief : Answer → Type 0

@@ -1,7 +1,6 @@
 -- Where what a conversation used up came from: its shelf, and the searches whose turns its archive
 -- took.
-use Rattle.std.specs.Prelude.{◌≡◌, ◌≤◌, ◌⊎◌, ℕ, Bool, false, List, [], ◌∷◌, ◌++◌, length, Option}
-use Rattle.htp_line.specs.declared.request.Request.{Request}
+use Rattle.std.specs.Prelude.{◌≡◌, ◌≤◌, ℕ, Bool, false, List, [], ◌∷◌, ◌++◌, length, Option}
 use Rattle.hex_io.specs.Told.{Both}
 use Rattle.hex_io.specs.declared.files.File.{File}
 use Rattle.hex_io.specs.Shelves.{Shelved, Fetched, Failed, Missing, Long, Contents, fetched_of}
@@ -13,8 +12,10 @@ use Rattle.hex_engine.specs.Supply.{Load, Supply, nothing_left}
 use Rattle.hex_engine.specs.declared.loadsgf.Loaded.{Loaded}
 use Rattle.hex_engine.specs.declared.loadsgf.Loaded.TheVariants.{Unread, Refused, Loads}
 use Rattle.hex_engine.specs.EngineState.{EngineState}
-use Rattle.hex_engine.specs.Requests.{ReactsWith, IsBrief, reaction}
+use Rattle.hex_engine.specs.Requests.{ReactsWith, IsBrief, obeyed}
 use Rattle.hex_engine.specs.declared.answers.Answer.{Answer}
+use Rattle.hex_engine.specs.declared.commands.Command.TheVariants as command
+use Rattle.hex_engine.specs.declared.commands.Using.{Using}
 use Rattle.hex_engine.specs.declared.options.Options.{Options}
 
 -- what comes of bytes: the game of which they are a record, or, if there is none, a refusal
@@ -82,13 +83,12 @@ pub record UsesNothing (options : Options) (shelf shelf_now : Option Shelved)
   pub few : length in_vain ≤ 1
   pub uses : Uses options shelf shelf_now archive archive_now nothing_left in_vain
 
--- A request was answered so: this was used up for it, and the answer, with what stands after it, is
--- the reaction to the request with that to use up. An answer for which something was used up is
--- brief.
+-- A command with these arguments was answered so: this was used up for it, and the answer, with
+-- what stands after it, is what the command does with that to use up. The answer is brief.
 pub record Answered (engine : EngineState) (shelf shelf_now : Option Shelved)
-    (archive archive_now : Option (List TurnData)) (request : Request) (answer : Answer)
-    (after : EngineState) : Type 0 where
+    (archive archive_now : Option (List TurnData)) (what : Using) (args : List (List ℕ))
+    (answer : Answer) (after : EngineState) : Type 0 where
   pub used : Supply
   pub uses : Uses engine.options shelf shelf_now archive archive_now used []
-  pub reacts : ReactsWith (λ supply. reaction engine supply request) used answer after
-  pub brief : (used ≡ nothing_left) ⊎ IsBrief answer
+  pub reacts : ReactsWith (λ left. obeyed engine left (command.Using what) args) used answer after
+  pub brief : IsBrief answer

@@ -4,6 +4,7 @@ ghost use Rattle.std.specs.Prelude.{◌≡◌};
 ghost use Rattle.hex_engine.specs.Replies.{message};
 ghost use Rattle.hex_engine.specs.declared.answers.EngineError.TheVariants.{Memory};
 
+use super::commands::Using;
 use htp_line::HtpText;
 use std::alloc::AllocError;
 use thiserror::Error;
@@ -65,6 +66,15 @@ pub enum Answer {
     Quit,
     /// A failure.
     Fail(Fail),
+}
+
+/// What a request comes to before a file or a turn is used up.
+#[derive(Debug, Drop)]
+pub enum Asked {
+    /// It uses nothing up, and this answers it.
+    Quiet(Answer),
+    /// It asks for this command, which is still to be obeyed.
+    Using(Using),
 }
 
 /// Memory ran out.

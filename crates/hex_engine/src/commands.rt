@@ -11,6 +11,13 @@ use std::alloc::{AllocError, Global};
 pub enum Command {
     /// One that uses nothing up.
     Quiet(Quiet),
+    /// One that may use something up.
+    Using(Using),
+}
+
+/// A command that may use something up.
+#[derive(Clone, Copy, Debug, PartialEq, Eq)]
+pub enum Using {
     /// Asks for a move of the engine, which is played. It uses up a turn.
     GenMove,
     /// Fetches the record of a game. It uses up a file.
@@ -60,10 +67,10 @@ pub enum Quiet {
 pub const COMMANDS: &[Command] = &[
     Command::Quiet(Quiet::BoardSize),
     Command::Quiet(Quiet::ClearBoard),
-    Command::GenMove,
+    Command::Using(Using::GenMove),
     Command::Quiet(Quiet::KnownCommand),
     Command::Quiet(Quiet::ListCommands),
-    Command::LoadSgf,
+    Command::Using(Using::LoadSgf),
     Command::Quiet(Quiet::LookReport),
     Command::Quiet(Quiet::MustPlay),
     Command::Quiet(Quiet::Name),
@@ -98,10 +105,10 @@ impl Command {
         match self {
             Command::Quiet(Quiet::BoardSize) => "boardsize",
             Command::Quiet(Quiet::ClearBoard) => "clear_board",
-            Command::GenMove => "genmove",
+            Command::Using(Using::GenMove) => "genmove",
             Command::Quiet(Quiet::KnownCommand) => "known_command",
             Command::Quiet(Quiet::ListCommands) => "list_commands",
-            Command::LoadSgf => "loadsgf",
+            Command::Using(Using::LoadSgf) => "loadsgf",
             Command::Quiet(Quiet::LookReport) => "look-report",
             Command::Quiet(Quiet::MustPlay) => "mustplay",
             Command::Quiet(Quiet::Name) => "name",

@@ -7,10 +7,10 @@
 //! each `genmove`. The other commands are *quiet*: they use nothing up.
 //!
 //! **A caller** makes an [`Engine`] on a board's size, with the options of its turns, and hands it
-//! the requests one by one. With each go the runtime and the gate of its searches, a shelf that has
-//! the files and an archive that takes the turns: `engine.line(rt, &request, &mut shelf, &mut
-//! archive, &gate)`. One that uses nothing up is answered by `engine.quiet_line(&request)` too,
-//! which takes none of these.
+//! the requests one by one. `engine.answer(&request)` answers one that uses nothing up. For every
+//! other one it gives the command, which is obeyed with the runtime and the gate of its searches, a
+//! shelf that has the files and an archive that takes the turns: `engine.obey_with(rt, command,
+//! args, &mut shelf, &mut archive, &gate)`.
 //!
 //! **What is proved.** The reply and what stands after it are a function of what stood before, of
 //! what was used up, and of the request (specs/Requests.antt). Each load is what the shelf's fetch
@@ -36,8 +36,8 @@
 //!   that there are such lists and where they came from. A load has the name that was asked for and
 //!   what came of it, since whether bytes are a record of a game is a relation and no function. A
 //!   load or turn that doesn't fit stops the conversation.
-//! - `Engine::line` is made for every number of turns; the count is a `u64`, and a `genmove` that
-//!   would pass its end is answered as out of memory, which no session reaches.
+//! - `Engine::obey_with` is made for every number of turns; the count is a `u64`, and a `genmove`
+//!   that would pass its end is answered as out of memory, which no session reaches.
 //! - The engine keeps the last turn's texts and neither its tree nor its reports, so that their
 //!   memory is free before the next turn. What a turn needs (its texts, its vertex, the count) is
 //!   made before it is handed over: after `archive.take` nothing can fail.
@@ -63,7 +63,7 @@ mod state;
 mod telling;
 mod texts;
 
-pub use answers::{Answer, EngineError, Fail, Memory};
-pub use commands::{COMMANDS, Command, Quiet};
+pub use answers::{Answer, Asked, EngineError, Fail, Memory};
+pub use commands::{COMMANDS, Command, Quiet, Using};
 pub use options::Options;
 pub use state::Engine;

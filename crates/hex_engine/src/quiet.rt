@@ -1,37 +1,19 @@
 //! What a quiet command does: one match over them.
 
-ghost use Rattle.std.specs.Prelude.{◌≡◌, IfOk, OnErr, is_some};
+ghost use Rattle.std.specs.Prelude.{◌≡◌, IfOk, OnErr};
 ghost use Rattle.hex_engine.specs.BoardReplies.{in_conversation};
 ghost use Rattle.hex_engine.specs.QuietReplies.{obeyed_quietly, quiet_reaction};
-ghost use Rattle.hex_engine.specs.Requests.{AnsweredQuietly, Reacts, TellsNoFault, is_quiet};
+ghost use Rattle.hex_engine.specs.Requests.{Reacts, TellsNoFault};
 
 use super::answers::{Answer, Fail, Memory};
 use super::boards::{clear, play, resize, undo};
-use super::commands::{Command, Quiet};
+use super::commands::Quiet;
 use super::last_turn::{tell_certificate, tell_look, tell_plan, tell_report};
 use super::state::Engine;
 use super::telling::{know, list, name_of_winner, print_game, show, tell};
-use htp_line::{HtpText, Request};
+use htp_line::HtpText;
 
 impl Engine {
-    /// Answers a request that uses nothing up, as [`Engine::line`] does. `None` exactly if it asks
-    /// for `genmove` or `loadsgf`: then, as after an error, nothing changed.
-    #[tactic(auto, unfolding(crate::specs::Requests::reaction))]
-    pub fn quiet_line(&mut self, request: &Request) -> Result<Option<Answer>, Memory>
-        ensures reply { IfOk result (AnsweredQuietly self.old request.now self.new) }
-        ensures quiet { IfOk result (λ answer. is_some answer ≡ is_quiet request.now) }
-        ensures err { OnErr result (self.new ≡ self.old) }
-    {
-        let args = request.args.as_slice();
-        let Some(command) = Command::named(request.name.as_slice()) else {
-            return Ok(Some(Answer::Fail(Fail::UnknownCommand)));
-        };
-        match command {
-            Command::Quiet(quiet) => Ok(Some(self.obey(quiet, args)?)),
-            Command::GenMove | Command::LoadSgf => Ok(None),
-        }
-    }
-
     /// Does what a command says that uses nothing up.
     /// Fails: `syntax error`, if it takes no arguments and there are some; else as its handler.
     #[tactic(auto, unfolding(crate::specs::QuietReplies::quiet_reaction))]

@@ -1,4 +1,4 @@
-//! The engine: what it keeps, and the answer to one request.
+//! The engine: what it keeps, and the two calls that answer a request.
 
 ghost use Rattle.std.specs.Prelude.{◌≡◌, IfOk, OnErr, Ok, Err};
 ghost use Rattle.hex_io.specs.Causes.{CountsFault};
@@ -7,19 +7,19 @@ ghost use Rattle.tree_words.specs.Settings.{AreInRange};
 ghost use Rattle.hex_engine.specs.Faults.{IsArchiveFault, IsReadFault};
 ghost use Rattle.hex_engine.specs.EngineState.{opening};
 ghost use Rattle.hex_engine.specs.Replies.{NoTurn};
-ghost use Rattle.hex_engine.specs.Requests.{reaction};
+ghost use Rattle.hex_engine.specs.Requests.{ComesTo, obeyed};
 ghost use Rattle.hex_engine.specs.Supply.{nothing_left};
 ghost use Rattle.hex_engine.specs.Uses.{Answered, UsesNothing};
 
-use super::answers::{Answer, EngineError, Fail, Memory};
-use super::commands::Command;
+use super::answers::{Answer, Asked, EngineError, Fail, Memory};
+use super::commands::{Command, Using};
 use super::options::Options;
 use hex_board::Board;
 use hex_cells::Size;
 use hex_game::Game;
 use hex_io::Shelf;
 use hex_plan::{Archive, TurnTexts};
-use htp_line::Request;
+use htp_line::{HtpText, Request};
 use search_team::Gate;
 use std::alloc::Global;
 use std::marker::Model;
@@ -88,28 +88,44 @@ impl Engine {
         self.turns
     }
 
-    /// Answers one request. After an error nothing changed here, and no turn was taken; a file may
-    /// have been fetched.
+    /// Answers a request if it uses nothing up. If it may use something up, nothing changed, and
+    /// [`Engine::obey_with`] is to be called, with the command that is given here and the request's
+    /// arguments. So the command is looked up once. After an error nothing changed.
+    #[tactic(auto, unfolding(crate::specs::Requests::reaction))]
+    pub fn answer(&mut self, request: &Request) -> Result<Asked, Memory>
+        ensures ok { IfOk result (ComesTo self.old request.now self.new) }
+        ensures err { OnErr result (self.new ≡ self.old) }
+    {
+        let Some(command) = Command::named(request.name.as_slice()) else {
+            return Ok(Asked::Quiet(Answer::Fail(Fail::UnknownCommand)));
+        };
+        match command {
+            Command::Quiet(quiet) => Ok(Asked::Quiet(self.obey(quiet, request.args.as_slice())?)),
+            Command::Using(using) => Ok(Asked::Using(using)),
+        }
+    }
+
+    /// Obeys a command that may use something up, with these arguments. After an error nothing
+    /// changed here, and no turn was taken; a file may have been fetched.
     ///
     /// `read fault` comes only if the file store counted a fault, and `cannot load file` exactly if
     /// the fetched file is none, too long, or no record of a game (SGF FF[4], GM[11]). `Archive`
     /// comes only if the archive counted a fault. With every other answer the counts are as before.
     ///
-    /// The answer to a `genmove` or a `loadsgf` is brief: a vertex, nothing, or the message of a
-    /// failure. So a caller that has room for such an answer before it asks can give the answer of
-    /// each turn that was taken.
-    #[tactic(auto, unfolding(crate::specs::Requests::reaction))]
-    pub fn line<R: Threads + Sync, F: Shelf, A: Archive, G: Gate + Sync>(
+    /// The answer is brief: a vertex, nothing, or the message of a failure. So a caller that has
+    /// room for such an answer before it calls can give the answer of each turn that was taken.
+    pub fn obey_with<R: Threads + Sync, F: Shelf, A: Archive, G: Gate + Sync>(
         &mut self,
         rt: &R,
-        request: &Request,
+        command: Using,
+        args: &[HtpText],
         shelf: &mut F,
         archive: &mut A,
         gate: &G,
     ) -> Result<Answer, EngineError>
         ensures reply { IfOk result
-            (λ a. Answered self.old (F.told shelf.old) (F.told shelf.new)
-            (A.told archive.old) (A.told archive.new) request.now a self.new) }
+            (λ answer. Answered self.old (F.told shelf.old) (F.told shelf.new)
+            (A.told archive.old) (A.told archive.new) command args.now answer self.new) }
 
         // After an error.
         ensures err { OnErr result (self.new ≡ self.old) }
@@ -117,7 +133,7 @@ impl Engine {
             (UsesNothing self.old.options (F.told shelf.old) (F.told shelf.new)
             (A.told archive.old) (A.told archive.new)) }
         ensures wants_turn { result ≡ Err EngineError.Archive →
-            reaction self.old nothing_left request.now ≡ Err NoTurn }
+            obeyed self.old nothing_left (Command.Using command) args.now ≡ Err NoTurn }
         ensures no_fetch { result ≡ Err EngineError.Archive →
             Same (F.told shelf.old) (F.told shelf.new) }
 
@@ -127,14 +143,9 @@ impl Engine {
         ensures archive_fault { CountsFault (A.faults archive.old) (A.faults archive.new)
             (IsArchiveFault result) }
     {
-        let args = request.args.as_slice();
-        let Some(command) = Command::named(request.name.as_slice()) else {
-            return Ok(Answer::Fail(Fail::UnknownCommand));
-        };
         match command {
-            Command::Quiet(quiet) => Ok(self.obey(quiet, args)?),
-            Command::LoadSgf => Ok(self.load(args, shelf)?),
-            Command::GenMove => self.generate(rt, args, archive, gate),
+            Using::LoadSgf => Ok(self.load(args, shelf)?),
+            Using::GenMove => self.generate(rt, args, archive, gate),
         }
     }
 }

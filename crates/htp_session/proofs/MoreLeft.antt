@@ -16,6 +16,7 @@ use Rattle.hex_engine.specs.MoveReplies.{is_next, moving_next, moving_by, lone_c
 use Rattle.hex_engine.specs.Requests.{obeyed, reaction_by, reaction}
 use Rattle.hex_engine.specs.declared.commands.Command.{Command}
 use Rattle.hex_engine.specs.declared.commands.Command.TheVariants as command
+use Rattle.hex_engine.specs.declared.commands.Using.TheVariants as using
 
 -- the same result, with more left
 abbrev pub leaving_more : Supply → Result Turned Missing → Result Turned Missing
@@ -66,9 +67,9 @@ moving_by_more at left more (Some colour) all
 obeyed_more : (at : EngineState) (left more : Supply) (what : Command) (args : List (List ℕ))
     → HasAll (obeyed at left what args)
     → obeyed at (and_then left more) what args ≡ leaving_more more (obeyed at left what args)
-obeyed_more at left more command.GenMove args all
+obeyed_more at left more (command.Using using.GenMove) args all
     = moving_by_more at left more (lone_colour args) all
-obeyed_more at left more command.LoadSgf args all = loading_more at left more (file_named args) all
+obeyed_more at left more (command.Using using.LoadSgf) args all = loading_more at left more (file_named args) all
 obeyed_more at left more (command.Quiet quiet) args all = refl
 
 by_more : (at : EngineState) (left more : Supply) (what : Option Command) (args : List (List ℕ))

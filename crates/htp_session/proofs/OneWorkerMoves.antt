@@ -30,6 +30,7 @@ use Rattle.hex_engine.specs.Requests.{obeyed, reaction_by, reaction}
 use Rattle.hex_engine.specs.declared.answers.Fail.TheVariants.{Over}
 use Rattle.hex_engine.specs.declared.commands.Command.{Command}
 use Rattle.hex_engine.specs.declared.commands.Command.TheVariants as command
+use Rattle.hex_engine.specs.declared.commands.Using.TheVariants as using
 use Rattle.hex_engine.proofs.Legal.{next_board}
 use Rattle.htp_session.proofs.OneWorkerLoads.{SameLoads}
 
@@ -150,9 +151,9 @@ moving_agree options at a b (Some colour) one h = by (may_move (board_of at.game
 obeyed_agree : (options : Options) (at : EngineState) (a b : Supply) (what : Command)
     (args : List (List ℕ)) → HasOneWorker options → Alike options a b
     → Agree options (obeyed at a what args) (obeyed at b what args)
-obeyed_agree options at a b command.GenMove args one h
+obeyed_agree options at a b (command.Using using.GenMove) args one h
     = moving_agree options at a b (lone_colour args) one h
-obeyed_agree options at a b command.LoadSgf args one h
+obeyed_agree options at a b (command.Using using.LoadSgf) args one h
     = loading_agree options at a b (file_named args) h
 obeyed_agree options at a b (command.Quiet quiet) args one h = (refl, h)
 

@@ -12,9 +12,12 @@ use Rattle.htp_line.specs.declared.request.Parsed.TheVariants as parsed
 use Rattle.hex_engine.specs.EngineState.{EngineState}
 use Rattle.hex_engine.specs.Replies.{NoTurn}
 use Rattle.hex_engine.specs.Supply.{Supply, nothing_left}
-use Rattle.hex_engine.specs.Requests.{AnsweredQuietly, reaction}
+use Rattle.hex_engine.specs.Requests.{ComesTo, obeyed, reaction, reaction_by}
 use Rattle.hex_engine.specs.Uses.{Answered}
 use Rattle.hex_engine.specs.declared.answers.Answer.{Answer}
+use Rattle.hex_engine.specs.declared.answers.Asked.TheVariants.{Using as AsksFor}
+use Rattle.hex_engine.specs.declared.commands.Command.TheVariants as command
+use Rattle.hex_engine.specs.declared.commands.Using.{Using}
 use Rattle.hex_engine.specs.declared.answers.EngineError.{EngineError}
 use Rattle.hex_engine.specs.declared.answers.EngineError.TheVariants as engine
 use Rattle.hex_devices.specs.Devices.{CountsStop, DevicesState, shelf_and_archive, stop_as}
@@ -25,8 +28,10 @@ use Rattle.hex_devices.specs.declared.stops.Stop.TheVariants.{ReadFault, WriteFa
 use Rattle.hex_devices.specs.declared.stops.Stop.TheVariants.{ArchiveFault}
 use Rattle.htp_session.specs.Talk.{TalkState, Going, after_reaction, after_reading}
 use Rattle.htp_session.specs.Usage.{AnswersWith, Wants, UsesUpNothing}
-use Rattle.htp_session.specs.Calls.Answering.{Speaks, SpeaksToRequest, Writes, WritesReply}
-use Rattle.htp_session.specs.Calls.Asking.{Asks, Replies, output_of_engine, stop_of_engine}
+use Rattle.htp_session.specs.Calls.Answering.{Speaks, Writes, WritesReply}
+use Rattle.htp_session.specs.Calls.Asking.{Asks, Replies, after_question, output_of_engine}
+use Rattle.htp_session.specs.Calls.Asking.{stop_of_engine}
+use Rattle.htp_session.specs.declared.questions.Question.{Question}
 use Rattle.htp_session.specs.declared.answering.Said.{Said}
 use Rattle.htp_session.specs.declared.answering.Said.TheVariants.{Whole, Open}
 use Rattle.htp_session.proofs.UsageLaws.{says_nothing_used, nothing_used}
@@ -42,12 +47,18 @@ pub refused : {E : Type 0} (at : EngineState) (says : Supply → TalkState) (tex
 refused at says text old out (Ok said) is wrote whole = rw whole (text, wrote, is)
 refused at says text old out (Err error) is wrote whole = tt
 
--- a request that uses something up was not answered
-pub unspoken : (before after : EngineState) (request : Request) (answered : Option Answer)
-    (out : List ℕ) → AnsweredQuietly before request after answered → answered ≡ None
-    → SpeaksToRequest before after request out out (Open request)
-unspoken before after request answered out quietly is =
-    (refl, subst (AnsweredQuietly before request after) is quietly, λ later. refl)
+-- a request that may use something up is answered as the command that it asks for
+pub unspoken : (before after : EngineState) (request : Request) (what : Using) (out : List ℕ)
+    → ComesTo before request after (AsksFor what)
+    → (out ≡ out) × (after ≡ before) × ((later : Supply)
+    → after_reading before later (parsed.Request request) ≡ after_reaction before later request.id
+    (obeyed before later (command.Using what) request.args))
+unfolding reaction
+unspoken before after request what out comes = (
+  refl,
+  comes.0,
+  λ later. ap (λ k. after_reaction before later request.id (reaction_by before later k request.args)) comes.1,
+)
 
 -- ---- over the devices
 
@@ -62,17 +73,17 @@ held_whole d before after says held held_now quit s = (
   says_nothing_used before.options (shelf_and_archive d) says s.0 after quit s.2,
 )
 
--- what a request comes to, the line comes to
+-- what a question comes to, the line comes to
 pub written_line : (old new : DevicesState) (before mid after : EngineState)
-    (says : Supply → TalkState) (held held_mid held_now : List ℕ) (request : Request)
+    (says : Supply → TalkState) (held held_mid held_now : List ℕ) (question : Question)
     (result : Result Bool OutputError)
-    → Speaks before mid says held held_mid (Open request)
-    → WritesReply old new mid after request held_mid held_now result
+    → Speaks before mid says held held_mid (Open question)
+    → WritesReply old new mid after question held_mid held_now result
     → Writes old new before after says held held_now result
-written_line old new before mid after says held held_mid held_now request result s w =
-    let at_first : WritesReply old new before after request held held_now result =
-    subst (λ h. WritesReply old new before after request h held_now result) s.0
-    (subst (λ e. WritesReply old new e after request held_mid held_now result) s.1 w) in
+written_line old new before mid after says held held_mid held_now question result s w =
+    let at_first : WritesReply old new before after question held held_now result =
+    subst (λ h. WritesReply old new before after question h held_now result) s.0
+    (subst (λ e. WritesReply old new e after question held_mid held_now result) s.1 w) in
     subst (λ said. Writes old new before after said held held_now result)
     (λ i later. sym (s.2 later) i) at_first
 
@@ -94,55 +105,57 @@ pub ran_out_unwritten : (old new : DevicesState) (before after : EngineState)
 ran_out_unwritten old new before after says held held_mid held_now is part same =
     (subst (GaveProperPart old.link new.link) is part, same)
 
--- a request was answered after what was held had been given
-pub replied_after : (old mid new : DevicesState) (before after : EngineState) (request : Request)
+-- a question was answered after what was held had been given
+pub replied_after : (old mid new : DevicesState) (before after : EngineState) (question : Question)
     (held none held_now : List ℕ) (quit : Bool) → Gave old.link mid.link held → none ≡ []
     → shelf_and_archive mid ≡ shelf_and_archive old → new.link ≡ mid.link
-    → Replies mid new before after request none held_now (Ok quit)
-    → WritesReply old new before after request held held_now (Ok quit)
-replied_after old mid new before after request held none held_now quit gave empty same link r =
+    → Replies mid new before after question none held_now (Ok quit)
+    → WritesReply old new before after question held held_now (Ok quit)
+replied_after old mid new before after question held none held_now quit gave empty same link r =
     let is : held_now ≡ r.0 = r.1 ∙ ap (λ l. l ++ r.0) empty in
-    let says : Supply → TalkState = λ left. after_reading before left (parsed.Request request) in (
+    let says : Supply → TalkState = λ left. after_question before left question in (
       r.0,
       (held, ap (λ l. held ++ l) (sym is), subst (λ l. Gave old.link l held) (sym link) gave),
       subst (λ a. AnswersWith before.options a (shelf_and_archive new) says r.0 after quit) same r.2,
     )
 
 pub unreplied_after : (old mid new : DevicesState) (before after : EngineState)
-    (request : Request) (held none held_now : List ℕ) (error : EngineError)
+    (question : Question) (held none held_now : List ℕ) (error : EngineError)
     → Gave old.link mid.link held → shelf_and_archive mid ≡ shelf_and_archive old
-    → new.link ≡ mid.link → Replies mid new before after request none held_now (Err error)
-    → WritesReply old new before after request held held_now (Err (output_of_engine error))
-unreplied_after old mid new before after request held none held_now engine.Memory gave same link r = (
+    → new.link ≡ mid.link → Replies mid new before after question none held_now (Err error)
+    → WritesReply old new before after question held held_now (Err (output_of_engine error))
+unreplied_after old mid new before after question held none held_now engine.Memory gave same link r = (
   subst (λ l. Gave old.link l held) (sym link) gave,
   subst (λ a. UsesUpNothing before.options a (shelf_and_archive new)) same r,
 )
-unreplied_after old mid new before after request held none held_now engine.Archive gave same link r =
-    let says : Supply → TalkState = λ left. after_reading before left (parsed.Request request) in (
+unreplied_after old mid new before after question held none held_now engine.Archive gave same link r =
+    let says : Supply → TalkState = λ left. after_question before left question in (
       subst (λ l. Gave old.link l held) (sym link) gave,
       subst (λ a. Wants before.options a (shelf_and_archive new) before says) same r,
     )
 
 -- ---- what the engine answered, told of the devices
 
-pub asked : (old new : DevicesState) (before after : EngineState) (request : Request)
-    (result : Result Answer EngineError)
-    → IfOk result (λ a. Answered before old.shelf new.shelf old.turns new.turns request a after)
+pub asked : (old new : DevicesState) (before after : EngineState) (question : Question)
+    (args : List (List ℕ)) (result : Result Answer EngineError) → args ≡ question.request.args
+    → IfOk result
+    (λ a. Answered before old.shelf new.shelf old.turns new.turns question.command args a after)
     → OnErr result
     (UsesUpNothing before.options (shelf_and_archive old) (shelf_and_archive new))
-    → (result ≡ Err engine.Archive → reaction before nothing_left request ≡ Err NoTurn)
+    → (result ≡ Err engine.Archive → obeyed before nothing_left (command.Using question.command) args ≡ Err NoTurn)
     → (result ≡ Err engine.Archive → Same old.shelf new.shelf)
-    → Asks old new before after request result
-asked old new before after request (Ok answer) answered vain wants same = answered
-asked old new before after request (Err engine.Memory) answered vain wants same = vain
-asked old new before after request (Err engine.Archive) answered vain wants same = (
+    → Asks old new before after question result
+asked old new before after question args (Ok answer) is answered vain wants same
+    = subst (λ l. Answered before old.shelf new.shelf old.turns new.turns question.command l answer after) is answered
+asked old new before after question args (Err engine.Memory) is answered vain wants same = vain
+asked old new before after question args (Err engine.Archive) is answered vain wants same = (
   record {
     loading = Both-weaker old.shelf new.shelf _ _
         (λ o n e. record { tries = []; tried = e ∙ ap (λ l. record o { tries = l }) (sym (append-nil o.tries)); came = tt })
         (same refl);
     moving = vain.uses.moving;
   },
-  wants refl,
+  subst (λ l. obeyed before nothing_left (command.Using question.command) l ≡ Err NoTurn) is (wants refl),
 )
 
 count_kept : (a b : ℕ) (t : Stop) (stop : Option Stop) → b ≡ a → (stop ≡ Some t → ⊥)
@@ -186,10 +199,10 @@ asked_counts old new (Err engine.Archive) reads writes archives names = record {
 }
 
 -- one that was not answered gave no reply
-pub unanswered : (old new : DevicesState) (before after : EngineState) (request : Request)
+pub unanswered : (old new : DevicesState) (before after : EngineState) (question : Question)
     (out out_now : List ℕ) (error : EngineError)
-    → Asks old new before after request (Err error)
-    → Replies old new before after request out out_now (Err error)
-unanswered old new before after request out out_now engine.Memory a = a
-unanswered old new before after request out out_now engine.Archive a =
-    record { uses = a.0; is = ap (after_reaction before nothing_left request.id) a.1 }
+    → Asks old new before after question (Err error)
+    → Replies old new before after question out out_now (Err error)
+unanswered old new before after question out out_now engine.Memory a = a
+unanswered old new before after question out out_now engine.Archive a =
+    record { uses = a.0; is = ap (after_reaction before nothing_left question.request.id) a.1 }

@@ -18,6 +18,7 @@ use Rattle.hex_engine.specs.MoveReplies.{is_next, turned, moving_next, moving_by
 use Rattle.hex_engine.specs.Requests.{obeyed, reaction_by, reaction}
 use Rattle.hex_engine.specs.declared.commands.Command.{Command}
 use Rattle.hex_engine.specs.declared.commands.Command.TheVariants as command
+use Rattle.hex_engine.specs.declared.commands.Using.TheVariants as using
 
 -- the next turn was taken: it is the conversation's next of this colour, and its cell was played
 -- and answered
@@ -85,8 +86,8 @@ moving_by_takes at left (Some colour) = either_takes (may_move (board_of at.game
 
 obeyed_takes : (at : EngineState) (left : Supply) (what : Command) (args : List (List ℕ))
     → TakesAndKeeps at left (obeyed at left what args)
-obeyed_takes at left command.GenMove args = moving_by_takes at left (lone_colour args)
-obeyed_takes at left command.LoadSgf args = loading_takes at left (file_named args)
+obeyed_takes at left (command.Using using.GenMove) args = moving_by_takes at left (lone_colour args)
+obeyed_takes at left (command.Using using.LoadSgf) args = loading_takes at left (file_named args)
 obeyed_takes at left (command.Quiet quiet) args = (inl (refl, refl), refl)
 
 by_takes : (at : EngineState) (left : Supply) (what : Option Command) (args : List (List ℕ))

@@ -12,8 +12,9 @@ ghost use Rattle.htp_session.specs.declared.answering.Said.{Said};
 
 use crate::asking::respond_to;
 use crate::holding::give_held;
+use crate::questions::Question;
 use hex_devices::{DeviceTypes, Devices, OutputError};
-use hex_engine::{Answer, Engine, Fail, Memory};
+use hex_engine::{Answer, Asked, Engine, Fail, Memory};
 use htp_line::{
     FRAME, ID_LIMIT, LINE_LIMIT, Parsed, Request, id_text, push_failure, push_success, read_line,
 };
@@ -27,8 +28,8 @@ pub const BRIEF: usize = FRAME + 17;
 pub enum Said {
     /// All that answers it was written. It says whether quit was answered.
     Whole(bool),
-    /// It is a request that has to be asked over the devices. Nothing was written.
-    Open(Request),
+    /// It has to be asked over the devices. Nothing was written.
+    Open(Question),
 }
 
 /// Answers a raw line, or one that is too long, at the end of `out`, and says whether quit was
@@ -49,7 +50,7 @@ pub fn respond<D: DeviceTypes>(
     match say(alloc, engine, raw, out) {
         Ok(said) => match said {
             Said::Whole(quit) => Ok(quit),
-            Said::Open(request) => respond_to(alloc, engine, devices, &request, out),
+            Said::Open(question) => respond_to(engine, devices, &question, out),
         },
         Err(_) => {
             give_held(devices, out)?;
@@ -91,11 +92,15 @@ fn say_quietly(
         out.old.items out.new.items) }
     ensures err { OnErr result (out.new.items ≡ out.old.items) }
 {
-    let Some(answer) = engine.quiet_line(&request)? else {
-        return Ok(Said::Open(request));
-    };
     let id = id_text(alloc, request.id)?;
-    Ok(Said::Whole(push_answer(out, &id, &answer)?))
+    match engine.answer(&request)? {
+        Asked::Quiet(answer) => Ok(Said::Whole(push_answer(out, &id, &answer)?)),
+        Asked::Using(command) => Ok(Said::Open(Question {
+            request,
+            command,
+            id,
+        })),
+    }
 }
 
 /// Writes an answer at the end of `out`, and says whether it is that to quit.

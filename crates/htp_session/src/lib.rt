@@ -58,6 +58,7 @@ mod asking;
 mod conversation;
 mod holding;
 mod laws;
+mod questions;
 mod session;
 
 pub use conversation::converse;

@@ -8,7 +8,9 @@ use Rattle.hex_engine.specs.EngineState.{EngineState}
 use Rattle.hex_engine.specs.Supply.{Supply}
 use Rattle.htp_session.specs.Talk.{TalkState, after_line, after_reading, ending_if}
 use Rattle.htp_session.specs.Usage.{AnswersWith, Wants, UsesUpNothing}
+use Rattle.htp_session.specs.Calls.Asking.{after_question}
 use Rattle.htp_session.specs.Calls.Holding.{Passes}
+use Rattle.htp_session.specs.declared.questions.Question.{Question}
 use Rattle.htp_session.specs.declared.answering.Said.{Said}
 use Rattle.htp_session.specs.declared.answering.Said.TheVariants.{Whole, Open}
 use Rattle.hex_devices.specs.Devices.{DevicesState, shelf_and_archive}
@@ -16,15 +18,15 @@ use Rattle.hex_devices.specs.declared.errors.OutputError.{OutputError}
 use Rattle.hex_devices.specs.declared.errors.OutputError.TheVariants.{Memory, Archive, Write}
 
 -- this, whatever is left, was said at once, and the engine stands so then; or nothing was said, and
--- it says what that request says
+-- what is said is what is said to that question
 abbrev pub Speaks : EngineState → EngineState → (Supply → TalkState) → List ℕ → List ℕ → Said
     → Type 0
 Speaks before after says out out_now (Whole quit) =
     (bytes : List ℕ) × (out_now ≡ out ++ bytes) × ((later : Supply)
     → says later ≡ record { text = bytes; at = after; left = later; ending = ending_if quit })
-Speaks before after says out out_now (Open request) =
+Speaks before after says out out_now (Open question) =
     (out_now ≡ out) × (after ≡ before) × ((later : Supply)
-    → says later ≡ after_reading before later (parsed.Request request))
+    → says later ≡ after_question before later question)
 
 -- the same of a line, as far as it is kept
 abbrev pub SpeaksTo : EngineState → EngineState → Option (List ℕ) → List ℕ → List ℕ → Said
@@ -59,8 +61,8 @@ abbrev pub WritesAnswer : DevicesState → DevicesState → EngineState → Engi
 WritesAnswer old new before after line =
     Writes old new before after (λ left. after_line before left line)
 
--- the same of a request
+-- the same of a question
 abbrev pub WritesReply : DevicesState → DevicesState → EngineState → EngineState
-    → Request → List ℕ → List ℕ → Result Bool OutputError → Type 0
-WritesReply old new before after request =
-    Writes old new before after (λ left. after_reading before left (parsed.Request request))
+    → Question → List ℕ → List ℕ → Result Bool OutputError → Type 0
+WritesReply old new before after question =
+    Writes old new before after (λ left. after_question before left question)

@@ -6,7 +6,7 @@ use Rattle.hex_io.specs.declared.shelves.ShelfError.TheVariants.{Fault, TooLong}
 use Rattle.hex_engine.specs.declared.loadsgf.Loaded.TheVariants.{Unread, Refused}
 use Rattle.hex_engine.specs.Uses.{IsReadAs}
 use Rattle.hex_io.proofs.ResultLaws.{on_err}
-use Rattle.hex_engine.proofs.Using.{fetched_one, fetched_in_vain, if_ok}
+use Rattle.hex_engine.proofs.UsedUp.{fetched_one, fetched_in_vain, if_ok}
 use Rattle.hex_engine.proofs.loadsgf.load_game.Goals as goal
 
 pub returns-in-Ok-Some-clause-came : goal.returns-in-Ok-Some-clause-came

@@ -12,7 +12,7 @@ returns-in-Whole-clause-writes g c =
 
 pub returns-in-Open-clause-writes : goal.returns-in-Open-clause-writes
 returns-in-Open-clause-writes g c =
-    written_line c.args.devices.now c.respond_to.new.devices c.args.engine.now c.say.new.engine _ _ _ _ _ _
+    written_line c.args.devices.now c.respond_to.new.devices c.args.engine.now c.say.new.engine _ _ _ _ _ c.in-Open.question
     c.respond_to.result (rw c.in-Open.is at c.in-Ok.ensures.speaks) c.respond_to.ensures.writes
 
 pub returns-in_ok-give_held-in-Err-clause-writes : goal.returns-in_ok-give_held-in-Err-clause-writes

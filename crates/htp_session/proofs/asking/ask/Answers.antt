@@ -10,13 +10,14 @@ returns-clause-asks g c =
       turns = g.D.Archive.Archive.told c.devices.inside.archive.now;
     } in
     let new = record c.args.devices.now {
-      shelf = g.D.Shelf.Shelf.told c.line.new.shelf;
-      turns = g.D.Archive.Archive.told c.line.new.archive;
+      shelf = g.D.Shelf.Shelf.told c.obey_with.new.shelf;
+      turns = g.D.Archive.Archive.told c.obey_with.new.archive;
     } in
     rw (← c.devices.view_is)
-    (asked old new _ _ c.args.request.now c.line.result c.line.ensures.reply c.line.ensures.in_vain c.line.ensures.wants_turn c.line.ensures.no_fetch)
+    (asked old new _ _ c.args.question.now c.as_slice.result.now c.obey_with.result c.as_slice.ensures
+    c.obey_with.ensures.reply c.obey_with.ensures.in_vain c.obey_with.ensures.wants_turn c.obey_with.ensures.no_fetch)
 
 pub returns-clause-counts : goal.returns-clause-counts
 returns-clause-counts g c =
     rw (← c.devices.view_is)
-    (asked_counts _ _ c.line.result refl refl c.line.ensures.archive_fault refl)
+    (asked_counts _ _ c.obey_with.result refl refl c.obey_with.ensures.archive_fault refl)

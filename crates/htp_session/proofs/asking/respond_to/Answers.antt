@@ -1,4 +1,4 @@
--- What was held was given, and then the request answered.
+-- What was held was given, and then the question answered.
 use Rattle.std.proofs.lemmas.Result.{err_from_is_err_and}
 use Rattle.hex_devices.proofs.CountLaws.{counts_then}
 use Rattle.htp_session.proofs.Speaking.{replied_after, unreplied_after}
@@ -16,7 +16,7 @@ returns-in_err-give_held-clause-counts g c =
 
 pub returns-in-Ok-clause-writes : goal.returns-in-Ok-clause-writes
 returns-in-Ok-clause-writes g c =
-    replied_after c.args.devices.now c.give_held.new.devices c.reply.new.devices _ _ c.args.request.now _ _ _ c.in-Ok.quit
+    replied_after c.args.devices.now c.give_held.new.devices c.reply.new.devices _ _ c.args.question.now _ _ _ c.in-Ok.quit
     c.in_ok-give_held.ensures.gives c.in_ok-give_held.ensures.empty c.in_ok-give_held.ensures.shelf_and_archive c.in-Ok.ensures.link c.in-Ok.ensures.replies
 
 pub returns-in-Ok-clause-counts : goal.returns-in-Ok-clause-counts
@@ -26,7 +26,7 @@ returns-in-Ok-clause-counts g c
 pub returns-in-Err-clause-writes : goal.returns-in-Err-clause-writes
 returns-in-Err-clause-writes g c =
     rw c.output_error.ensures
-    (unreplied_after c.args.devices.now c.give_held.new.devices c.reply.new.devices c.args.engine.now c.reply.new.engine c.args.request.now
+    (unreplied_after c.args.devices.now c.give_held.new.devices c.reply.new.devices c.args.engine.now c.reply.new.engine c.args.question.now
     c.args.out.now.items c.give_held.new.held.items c.reply.new.out.items c.in-Err.error
     c.in_ok-give_held.ensures.gives c.in_ok-give_held.ensures.shelf_and_archive c.in-Err.ensures.link c.in-Err.ensures.replies)
 

@@ -3,7 +3,7 @@ use Rattle.hex_game.specs.Games.{board_of}
 use Rattle.hex_plan.specs.Openings.{may_move}
 use Rattle.hex_engine.specs.EngineState.{EngineState}
 use Rattle.hex_engine.specs.MoveReplies.{moving_by}
-use Rattle.hex_engine.proofs.Using.{nothing_moved, over_reply, moved_reply, reacts_reply, if_ok}
+use Rattle.hex_engine.proofs.UsedUp.{nothing_moved, over_reply, moved_reply, reacts_reply, if_ok}
 use Rattle.hex_engine.proofs.state.Engine.generate.Goals as goal
 
 pub returns-in_default-clause-reply : goal.returns-in_default-clause-reply

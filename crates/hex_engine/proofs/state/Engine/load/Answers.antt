@@ -3,7 +3,7 @@ use Rattle.hex_engine.specs.Supply.{loads_only}
 use Rattle.hex_engine.specs.declared.loadsgf.Loaded.TheVariants.{Unread, Refused, Loads}
 use Rattle.hex_engine.specs.Uses.{Loading}
 use Rattle.hex_engine.specs.LoadReplies.{loading_by}
-use Rattle.hex_engine.proofs.Using.{unfetched, loads_reply}
+use Rattle.hex_engine.proofs.UsedUp.{unfetched, loads_reply}
 use Rattle.hex_engine.proofs.state.Engine.load.Goals as goal
 
 pub returns-in_default-clause-reply : goal.returns-in_default-clause-reply

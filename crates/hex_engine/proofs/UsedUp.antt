@@ -1,24 +1,21 @@
 -- What a fetch uses up, and what uses nothing up.
 use Rattle.std.proofs.Common.{◌≡◌, ◌≤◌, ℕ, length, arith, Bool, true, false, cond, List, [], ◌∷◌}
-use Rattle.std.proofs.Common.{◌++◌, Option, None, Some, Ok, refl, sym, ap, ◌∙◌, subst, append-nil}
+use Rattle.std.proofs.Common.{◌++◌, Option, Some, Ok, refl, sym, ap, ◌∙◌, subst, append-nil}
 use Rattle.hex_io.specs.Shelves.{Shelved, Fetched, is_failed, Tries, Fetches as FetchesOne}
 use Rattle.hex_io.proofs.BothLaws.{Both-weaker, Both-refl}
 use Rattle.hex_plan.specs.Turns.{TurnData}
 use Rattle.hex_engine.specs.declared.options.Options.{Options}
-use Rattle.hex_engine.specs.declared.answers.Fail.TheVariants.{Over, UnknownCommand}
-use Rattle.hex_engine.specs.declared.commands.Command.{Command}
-use Rattle.hex_engine.specs.Commands.{command_named}
-use Rattle.htp_line.specs.declared.request.Request.{Request}
+use Rattle.hex_engine.specs.declared.answers.Fail.TheVariants.{Over}
 use Rattle.hex_engine.specs.EngineState.{EngineState}
 use Rattle.hex_engine.specs.Supply.{Supply, nothing_left, loads_only, turns_only, and_then}
 use Rattle.hex_engine.specs.declared.loadsgf.Loaded.{Loaded}
-use Rattle.hex_engine.specs.Uses.{IsLoadOf, FetchesLoads, Loading, Moving, Uses, UsesNothing}
-use Rattle.hex_engine.specs.Replies.{Failed as FailedReply, Reaction, Turned, Missing, NoLoad}
-use Rattle.hex_engine.specs.Replies.{NoTurn, unchanged, unused}
+use Rattle.hex_engine.specs.Uses.{IsLoadOf, FetchesLoads, Loading, Moving}
+use Rattle.hex_engine.specs.Replies.{Failed as FailedReply, Reaction, NoLoad, NoTurn, unchanged}
+use Rattle.hex_engine.specs.Replies.{unused}
 use Rattle.hex_engine.specs.LoadReplies.{loaded, loading, loading_by, file_named}
 use Rattle.hex_engine.specs.MoveReplies.{lone_colour, is_next, turned, moving, moving_by}
 use Rattle.hex_engine.specs.MoveReplies.{moving_next}
-use Rattle.hex_engine.specs.Requests.{Reacts, replied, reaction, reaction_by, obeyed}
+use Rattle.hex_engine.specs.Requests.{Reacts, replied}
 use Rattle.hex_engine.specs.declared.answers.Answer.{Answer}
 use Rattle.hex_cells.specs.declared.colours.Colour.{Colour}
 use Rattle.hex_game.specs.Games.{board_of}
@@ -70,16 +67,6 @@ pub if_ok : {T E : Type 0} (r : Result T E) (P Q : T → Type 0) → ((x : T) �
 if_ok (Ok x) P Q go h = go x h
 if_ok (Err e) P Q go h = tt
 
-pub uses_nothing : (options : Options) (shelf : Option Shelved) (archive : Option (List TurnData))
-    → Uses options shelf shelf archive archive nothing_left []
-uses_nothing options shelf archive
-    = record { loading = unfetched shelf; moving = nothing_moved options archive }
-
-pub nothing_used : (options : Options) (shelf : Option Shelved) (archive : Option (List TurnData))
-    → UsesNothing options shelf shelf archive archive
-nothing_used options shelf archive
-    = record { in_vain = []; few = omega arith; uses = uses_nothing options shelf archive }
-
 -- a file of this name came to this
 pub loads_reply : (s : EngineState) (name : List ℕ) (what : Loaded) (args : List (List ℕ))
     → file_named args ≡ Some name
@@ -113,20 +100,3 @@ pub reacts_reply : (r : Reaction) (answer : Answer) (after : EngineState) (later
     → Reacts r answer after
     → unused later r ≡ Ok (record { reply = replied answer; after = after; left = later })
 reacts_reply r answer after later e = ap (unused later) (sym e)
-
-pub unknown_reply : (s : EngineState) (left : Supply) (request : Request) (name : List ℕ)
-    → name ≡ request.name → command_named name ≡ None
-    → reaction s left request ≡ unused left (unchanged s (FailedReply UnknownCommand))
-unfolding reaction
-unknown_reply s left request name is e = ap (λ n. reaction_by s left (command_named n) request.args)
-    (sym is) ∙ ap (λ k. reaction_by s left k request.args) e
-
--- a request for this command is answered as the command says
-pub known_reply : (s : EngineState) (left : Supply) (request : Request) (name : List ℕ)
-    (args : List (List ℕ)) (command : Command) (t : Result Turned Missing)
-    → name ≡ request.name → args ≡ request.args → command_named name ≡ Some command
-    → obeyed s left command args ≡ t → reaction s left request ≡ t
-unfolding reaction
-known_reply s left request name args command t is are e h =
-    ap (λ n. reaction_by s left (command_named n) request.args) (sym is)
-    ∙ ap (λ k. reaction_by s left k request.args) e ∙ ap (obeyed s left command) (sym are) ∙ h
