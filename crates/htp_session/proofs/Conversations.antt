@@ -11,7 +11,8 @@ use Rattle.hex_engine.specs.EngineState.{EngineState}
 use Rattle.hex_engine.specs.Supply.{Supply, nothing_left}
 use Rattle.htp_session.specs.Talk.{TalkState, Ending, Going, talk}
 use Rattle.htp_session.specs.Usage.{UsesUp}
-use Rattle.htp_session.specs.Sessions.{Conversation, Keeps, HasAnswered, Stands, start_of, all_used}
+use Rattle.htp_session.specs.Sessions.{Conversation, TookAndGave, HasAnswered, IsBetweenLines}
+use Rattle.htp_session.specs.Sessions.{first_state_of, all_used}
 use Rattle.htp_session.specs.Endings.{ConversedInGoodTurns}
 use Rattle.hex_devices.specs.Devices.{DevicesState, ShelfAndArchive, Outcome, CountsStop}
 use Rattle.hex_devices.specs.Devices.{shelf_and_archive}
@@ -19,14 +20,14 @@ use Rattle.hex_devices.proofs.CountLaws.{counts_nothing, counts_then}
 use Rattle.htp_session.proofs.TalkLaws.{talk_to-nil}
 use Rattle.htp_session.proofs.SupplyLaws.{talk_options}
 use Rattle.htp_session.proofs.UsageLaws.{uses_nothing}
-use Rattle.htp_session.proofs.Keeping.{keeps_giving, keeps_nothing, keeps_taking, lines-append}
+use Rattle.htp_session.proofs.Keeping.{giving_more, taking_nothing, taking_more, lines-append}
 
 -- the engine's options are those of the conversation
 pub options_of : {c : Conversation} {now : DevicesState} {engine : EngineState}
     {held taken : List ℕ} {ls : List (List ℕ)} {ending : Ending}
     → HasAnswered c now engine held taken ls ending → engine.options ≡ c.options
 options_of {c} {ls} h =
-    ap (λ (s : TalkState). s.at.options) (sym h.says) ∙ talk_options (start_of c) h.used ls
+    ap (λ (s : TalkState). s.at.options) (sym h.says) ∙ talk_options (first_state_of c) h.used ls
 
 -- a call that left the shelf and the archive alone
 pub uses_same : (c : Conversation) (old new : DevicesState) (used : Supply)
@@ -39,41 +40,41 @@ uses_same c old new used same uses
 -- more was given
 pub told_giving : (c : Conversation) (old new : DevicesState) (used : Supply)
     (taken given bytes : List ℕ)
-    → Both c.began.link old.link (λ o n. Keeps (start_of c) used o n taken given)
+    → Both c.began.link old.link (λ o n. TookAndGave (first_state_of c) used o n taken given)
     → Gave old.link new.link bytes
-    → Both c.began.link new.link (λ o n. Keeps (start_of c) used o n taken (given ++ bytes))
+    → Both c.began.link new.link (λ o n. TookAndGave (first_state_of c) used o n taken (given ++ bytes))
 told_giving c old new used taken given bytes told gave =
     Both-then c.began.link old.link new.link _ _ _
-    (λ x y z k g. keeps_giving (start_of c) used x y z taken given bytes k g) told gave
+    (λ x y z k g. giving_more (first_state_of c) used x y z taken given bytes k g) told gave
 
 -- before the first byte
-pub stands_nothing : (c : Conversation) (engine : EngineState) (splitter : SplitterData)
-    → engine ≡ start_of c → StandsAfter splitter [] → Stands c c.began engine splitter [] [] []
-stands_nothing c engine splitter is in_hand = record {
+pub before_first_byte : (c : Conversation) (engine : EngineState) (splitter : SplitterData)
+    → engine ≡ first_state_of c → StandsAfter splitter [] → IsBetweenLines c c.began engine splitter [] [] []
+before_first_byte c engine splitter is in_hand = record {
   so_far = record {
     used = nothing_left;
     uses = uses_nothing c.options (shelf_and_archive c.began);
     given = [];
-    says = talk_to-nil (start_of c) nothing_left ∙ ap (λ e. all_used [] e Going) (sym is);
+    says = talk_to-nil (first_state_of c) nothing_left ∙ ap (λ e. all_used [] e Going) (sym is);
     first = lines-append [] [];
     in_limit = omega arith;
-    told = Both-refl c.began.link _ (λ o. keeps_nothing (start_of c) nothing_left o);
+    told = Both-refl c.began.link _ (λ o. taking_nothing (first_state_of c) nothing_left o);
     counts = counts_nothing c.began;
   };
   in_hand = in_hand;
 }
 
 -- a read took more, and nothing was held
-pub stands_taking : {c : Conversation} {old new : DevicesState} {engine : EngineState}
+pub between_lines_taking : {c : Conversation} {old new : DevicesState} {engine : EngineState}
     {splitter : SplitterData} {seen : List ℕ} (buf : List ℕ) (n : ℕ)
-    → Stands c old engine splitter [] seen seen
+    → IsBetweenLines c old engine splitter [] seen seen
     → shelf_and_archive new ≡ shelf_and_archive old
     → Both old.link new.link (λ o t. TakesBytes o t n buf) → CountsStop old new None
     → length (seen ++ take n buf) ≤ c.limit
-    → Stands c new engine splitter [] seen (seen ++ take n buf)
-stands_taking {c} {old} {new} {seen} buf n h same reads counts few =
+    → IsBetweenLines c new engine splitter [] seen (seen ++ take n buf)
+between_lines_taking {c} {old} {new} {seen} buf n h same reads counts few =
     let k = h.so_far in
-    let text : k.given ≡ (talk (start_of c) k.used (whole seen)).text =
+    let text : k.given ≡ (talk (first_state_of c) k.used (whole seen)).text =
     sym (ap (λ (s : TalkState). s.text) k.says ∙ append-nil k.given) in
     record {
       so_far = record {
@@ -84,7 +85,7 @@ stands_taking {c} {old} {new} {seen} buf n h same reads counts few =
         first = lines-append seen (take n buf);
         in_limit = few;
         told = Both-then c.began.link old.link new.link _ _ _
-            (λ x y z p t. keeps_taking (start_of c) k.used x y z seen k.given buf n p text
+            (λ x y z p t. taking_more (first_state_of c) k.used x y z seen k.given buf n p text
             (ap (λ (s : TalkState). s.ending) k.says) t) k.told reads;
         counts = counts_then c.began old new None k.counts counts;
       };

@@ -10,8 +10,8 @@ use Rattle.hex_engine.specs.EngineState.{EngineState}
 use Rattle.htp_session.specs.Talk.{Ending, Going, ending_if}
 use Rattle.htp_session.specs.Calls.Holding.{Passes}
 use Rattle.htp_session.specs.Calls.Session.{Fed}
-use Rattle.htp_session.specs.Sessions.{Conversation, HasAnswered, Stands, StandsOrQuit, HasNoMore}
-use Rattle.htp_session.specs.Sessions.{CameTo}
+use Rattle.htp_session.specs.Sessions.{Conversation, HasAnswered, IsBetweenLines, IsBetweenLinesOrQuit}
+use Rattle.htp_session.specs.Sessions.{HasNoMore, CameTo}
 use Rattle.htp_session.specs.declared.session.Session.{Session}
 use Rattle.hex_devices.specs.Devices.{DevicesState, CountsStop, shelf_and_archive}
 use Rattle.hex_devices.specs.declared.stops.Stop.TheVariants as stop
@@ -25,12 +25,12 @@ pub holding_none : {c : Conversation} {now : DevicesState} {engine : EngineState
 holding_none none h = rw none h
 
 -- some of what is held was given
-pub stands_passing : {c : Conversation} {old new : DevicesState} {engine : EngineState}
+pub between_lines_passing : {c : Conversation} {old new : DevicesState} {engine : EngineState}
     {splitter : SplitterData} {held now seen taken : List ℕ}
-    → Stands c old engine splitter held seen taken → Passes old.link new.link held [] now
+    → IsBetweenLines c old engine splitter held seen taken → Passes old.link new.link held [] now
     → shelf_and_archive new ≡ shelf_and_archive old → CountsStop old new None
-    → Stands c new engine splitter now seen taken
-stands_passing {held} h pass same counts = record {
+    → IsBetweenLines c new engine splitter now seen taken
+between_lines_passing {held} h pass same counts = record {
   so_far = gives_some pass.0 h.so_far (sym (append-nil held) ∙ pass.1) pass.2 same counts;
   in_hand = h.in_hand;
 }
@@ -38,7 +38,7 @@ stands_passing {held} h pass same counts = record {
 -- all of it was given at the end of a piece
 pub fed_given : {old new : DevicesState} (quit : Bool) (c : Conversation) (session : Session)
     (held taken : List ℕ)
-    → StandsOrQuit quit c old session.engine session.splitter held taken taken
+    → IsBetweenLinesOrQuit quit c old session.engine session.splitter held taken taken
     → Gave old.link new.link held → shelf_and_archive new ≡ shelf_and_archive old
     → CountsStop old new None → Fed c new session taken (Ok quit)
 fed_given false c session held taken h gave same counts
@@ -49,7 +49,7 @@ fed_given true c session held taken h gave same counts
 -- or a prefix of it
 pub fed_unwritten : {c : Conversation} {old new : DevicesState} (quit : Bool) (session : Session)
     (held taken : List ℕ)
-    → StandsOrQuit quit c old session.engine session.splitter held taken taken
+    → IsBetweenLinesOrQuit quit c old session.engine session.splitter held taken taken
     → GaveProperPart old.link new.link held → shelf_and_archive new ≡ shelf_and_archive old
     → CountsStop old new (Some stop.WriteFault) → CameTo c new (Err stop.WriteFault)
 fed_unwritten false session held taken h part same counts
@@ -77,7 +77,7 @@ finished {c} {mid} {new} {now} old held bytes quit none pass h gave same counts 
 -- there is no last line
 pub finished_at_once : {c : Conversation} {now : DevicesState} {engine : EngineState}
     {splitter : SplitterData} {seen : List ℕ} (new : SplitterData)
-    → Stands c now engine splitter [] seen seen
+    → IsBetweenLines c now engine splitter [] seen seen
     → HasNoMore c now → Ends new.ended new.line (whole seen) (lines seen) → new.ended ≡ false
     → CameTo c now (Ok tt)
 finished_at_once {c} {now} {engine} {seen} new h none ends e =

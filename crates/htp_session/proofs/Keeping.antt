@@ -15,12 +15,12 @@ use Rattle.hex_engine.specs.Supply.{Supply, and_then}
 use Rattle.htp_session.specs.Talk.{TalkState, Going, goes_on, after_line, followed_by, with_line}
 use Rattle.htp_session.specs.Talk.{talk_start, talk, talk_to}
 use Rattle.htp_session.specs.Endings.{since, Shown, Course}
-use Rattle.htp_session.specs.Sessions.{Keeps}
+use Rattle.htp_session.specs.Sessions.{TookAndGave}
 use Rattle.htp_session.proofs.SupplyLaws.{talk_more_left, answered_if}
 
-pub since_keeps : (start : EngineState) (all : Supply) (o n : Told) (seen text : List ℕ)
-    → Keeps start all o n seen text → since o n ≡ seen
-since_keeps start all o n seen text k = ap (drop (length o.taken)) k.taken
+pub since_taken : (start : EngineState) (all : Supply) (o n : Told) (seen text : List ℕ)
+    → TookAndGave start all o n seen text → since o n ≡ seen
+since_taken start all o n seen text k = ap (drop (length o.taken)) k.taken
     ∙ drop-append_seam o.taken seen
 
 shown_grows : (start : EngineState) (all : Supply) (o n m : Told) (x y : List ℕ) (ask : ℕ × ℕ)
@@ -51,16 +51,16 @@ all_push P [] x all p = (p, tt)
 all_push P (y ∷ ys) x all p = (all.0, all_push P ys x all.1 p)
 
 -- a read took more
-pub keeps_taking : (start : EngineState) (all : Supply) (o n m : Told) (seen text buf : List ℕ)
-    (k : ℕ) → Keeps start all o n seen text → text ≡ (talk_to start all seen).text
+pub taking_more : (start : EngineState) (all : Supply) (o n m : Told) (seen text buf : List ℕ)
+    (k : ℕ) → TookAndGave start all o n seen text → text ≡ (talk_to start all seen).text
     → (talk_to start all seen).ending ≡ Going → TakesBytes n m k buf
-    → Keeps start all o m (seen ++ take k buf) text
-keeps_taking start all o n m seen text buf k kept e going t =
+    → TookAndGave start all o m (seen ++ take k buf) text
+taking_more start all o n m seen text buf k kept e going t =
     let ask : ℕ × ℕ = (length n.taken, length n.given) in
     let taken_then : drop (length o.taken) (take (length n.taken) m.taken) ≡ seen
     = ap (λ l. drop (length o.taken) (take (length n.taken) l)) t.taken
     ∙ ap (drop (length o.taken)) (take-append_seam n.taken (take k buf))
-    ∙ since_keeps start all o n seen text kept in
+    ∙ since_taken start all o n seen text kept in
     let given_then : take (length n.given) m.given ≡ n.given
     = ap (take (length n.given)) (t.given ∙ sym (append-nil n.given))
     ∙ take-append_seam n.given [] in
@@ -86,10 +86,10 @@ keeps_taking start all o n m seen text buf k kept e going t =
     }
 
 -- more was given
-pub keeps_giving : (start : EngineState) (all : Supply) (o n m : Told) (seen text bytes : List ℕ)
-    → Keeps start all o n seen text → GivesBytes n m bytes
-    → Keeps start all o m seen (text ++ bytes)
-keeps_giving start all o n m seen text bytes kept g =
+pub giving_more : (start : EngineState) (all : Supply) (o n m : Told) (seen text bytes : List ℕ)
+    → TookAndGave start all o n seen text → GivesBytes n m bytes
+    → TookAndGave start all o m seen (text ++ bytes)
+giving_more start all o n m seen text bytes kept g =
     let taken : m.taken ≡ n.taken = ap (λ (t : Told). t.taken) g in
     let given : m.given ≡ n.given ++ bytes = ap (λ (t : Told). t.given) g in
     record {
@@ -124,23 +124,23 @@ all_shown_later start all more o n (ask ∷ asks) shown
     = (shown_later start all more o n ask shown.0, all_shown_later start all more o n asks shown.1)
 
 -- more was used up
-pub keeps_using : (start : EngineState) (all more : Supply) (o n : Told) (seen text : List ℕ)
-    → Keeps start all o n seen text → Keeps start (and_then all more) o n seen text
-keeps_using start all more o n seen text kept = record {
+pub using_more : (start : EngineState) (all more : Supply) (o n : Told) (seen text : List ℕ)
+    → TookAndGave start all o n seen text → TookAndGave start (and_then all more) o n seen text
+using_more start all more o n seen text kept = record {
   taken = kept.taken;
   moved = kept.moved;
   given = kept.given;
   asks = (kept.asks.0, kept.asks.1, all_shown_later start all more o n kept.asks.0 kept.asks.2);
 }
 
-pub keeps_nothing : (start : EngineState) (all : Supply) (o : Told) → Keeps start all o o [] []
-keeps_nothing start all o
+pub taking_nothing : (start : EngineState) (all : Supply) (o : Told) → TookAndGave start all o o [] []
+taking_nothing start all o
     = record { taken = sym (append-nil o.taken); moved = refl; given = sym (append-nil o.given); asks = ([], sym (append-nil o.asks), tt) }
 
 pub course_of : (start : EngineState) (all : Supply) (o n : Told) (seen text : List ℕ)
-    → Keeps start all o n seen text → Course start all o n
+    → TookAndGave start all o n seen text → Course start all o n
 course_of start all o n seen text kept =
-    let s = since_keeps start all o n seen text kept in
+    let s = since_taken start all o n seen text kept in
     record { taken = rw s kept.taken; moved = rw s kept.moved; asks = kept.asks }
 
 -- ---- the text of more lines

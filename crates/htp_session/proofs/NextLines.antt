@@ -10,8 +10,8 @@ use Rattle.hex_engine.specs.Supply.{Supply, nothing_left, and_then}
 use Rattle.htp_session.specs.Talk.{TalkState, Going, Short, ending_if, goes_on, after_line, talk}
 use Rattle.htp_session.specs.Usage.{UsesUp}
 use Rattle.htp_session.specs.Calls.Answering.{WritesAnswer}
-use Rattle.htp_session.specs.Sessions.{Conversation, HasAnswered, Stands, StandsOrQuit, CameTo}
-use Rattle.htp_session.specs.Sessions.{start_of, all_used}
+use Rattle.htp_session.specs.Sessions.{Conversation, HasAnswered, IsBetweenLines, IsBetweenLinesOrQuit}
+use Rattle.htp_session.specs.Sessions.{CameTo, first_state_of, all_used}
 use Rattle.hex_devices.specs.Devices.{DevicesState, CountsStop, shelf_and_archive}
 use Rattle.hex_devices.specs.Errors.{stop_of_output}
 use Rattle.hex_devices.specs.declared.errors.OutputError.{OutputError}
@@ -21,7 +21,7 @@ use Rattle.hex_devices.proofs.CountLaws.{counts_then}
 use Rattle.htp_session.proofs.TalkLaws.{talk_next, talk_stays}
 use Rattle.htp_session.proofs.SupplyLaws.{talk_more_left, answered_if}
 use Rattle.htp_session.proofs.UsageLaws.{and_then_nothing, uses_then}
-use Rattle.htp_session.proofs.Keeping.{keeps_using, lines-append}
+use Rattle.htp_session.proofs.Keeping.{using_more, lines-append}
 use Rattle.htp_session.proofs.Ends.{ended_unarchived, ended_unfinished}
 use Rattle.htp_session.proofs.Conversations.{options_of, told_giving}
 use Rattle.htp_session.proofs.Outcomes.{came_giving, came_unwritten}
@@ -89,7 +89,7 @@ module _ {c : Conversation} {old new : DevicesState} {engine : EngineState} {hel
   pub next_answered : (quit : Bool) → WritesAnswer old new engine after line held now (Ok quit)
       → CountsStop old new None → HasAnswered c new after now taken with_it (ending_if quit)
   next_answered quit written counts =
-      let start = start_of c in
+      let start = first_state_of c in
       let w : WritesAnswer old new engine after (kept_line n.raw) held now (Ok quit)
       = subst (λ l. WritesAnswer old new engine after l held now (Ok quit)) n.kept written in
       let pass = w.1 in
@@ -119,7 +119,7 @@ module _ {c : Conversation} {old new : DevicesState} {engine : EngineState} {hel
         in_limit = h.in_limit;
         told = told_giving c old new all taken h.given pass.0
             (Both-weaker c.began.link old.link _ _
-            (λ x y k. keeps_using start h.used more x y taken h.given k) h.told) pass.2;
+            (λ x y k. using_more start h.used more x y taken h.given k) h.told) pass.2;
         counts = counts_then c.began old new None h.counts counts;
       }
 
@@ -131,10 +131,10 @@ module _ {c : Conversation} {old new : DevicesState} {engine : EngineState} {hel
   next_stopped output.Memory w counts =
       came_giving (Err stop.Memory) held w.1.in_vain h
       (uses_no_more c old new engine h.used w.1.in_vain (options_of h) h.uses w.1.uses) w.1.few w.0
-      (λ x y k. ended_unfinished (start_of c) h.used c.limit x y taken _ ls n.raw n.others engine
+      (λ x y k. ended_unfinished (first_state_of c) h.used c.limit x y taken _ ls n.raw n.others engine
       h.in_limit k n.split h.says) counts
   next_stopped output.Archive written counts =
-      let start = start_of c in
+      let start = first_state_of c in
       let w : WritesAnswer old new engine after (kept_line n.raw) held now (Err output.Archive)
       = subst (λ l. WritesAnswer old new engine after l held now (Err output.Archive)) n.kept written in
       let next = talk_next start h.used ls n.raw _ _ h.says refl w.1.is in
@@ -148,11 +148,11 @@ module _ {c : Conversation} {old new : DevicesState} {engine : EngineState} {hel
       (λ x y k. ended_unarchived start h.used c.limit x y taken _ engine h.in_limit k says) counts
 
 -- where no line ended nothing is answered
-pub stands_open : {c : Conversation} {now : DevicesState} {engine : EngineState}
+pub between_lines_open : {c : Conversation} {now : DevicesState} {engine : EngineState}
     {splitter new : SplitterData} {held seen front taken : List ℕ}
-    → Stands c now engine splitter held seen taken → Advances new seen front → new.ended ≡ false
-    → Stands c now engine new held (seen ++ front) taken
-stands_open {c} {now} {engine} {new} {held} {seen} {front} {taken} h adv e =
+    → IsBetweenLines c now engine splitter held seen taken → Advances new seen front → new.ended ≡ false
+    → IsBetweenLines c now engine new held (seen ++ front) taken
+between_lines_open {c} {now} {engine} {new} {held} {seen} {front} {taken} h adv e =
     let same : Ends false new.line (whole seen) (whole (seen ++ front))
     = subst (λ b. Ends b new.line (whole seen) (whole (seen ++ front))) e adv.ended in
     record {
@@ -161,9 +161,9 @@ stands_open {c} {now} {engine} {new} {held} {seen} {front} {taken} h adv e =
     }
 
 -- where one was answered the talk goes on, or it was a quit
-pub stands_or_quit : {c : Conversation} {now : DevicesState} {engine : EngineState}
+pub between_lines_or_quit : {c : Conversation} {now : DevicesState} {engine : EngineState}
     {held taken : List ℕ} (quit : Bool) (splitter : SplitterData) (seen : List ℕ)
     → HasAnswered c now engine held taken (whole seen) (ending_if quit) → StandsAfter splitter seen
-    → StandsOrQuit quit c now engine splitter held seen taken
-stands_or_quit false splitter seen h in_hand = record { so_far = h; in_hand = in_hand }
-stands_or_quit true splitter seen h in_hand = (whole seen, h)
+    → IsBetweenLinesOrQuit quit c now engine splitter held seen taken
+between_lines_or_quit false splitter seen h in_hand = record { so_far = h; in_hand = in_hand }
+between_lines_or_quit true splitter seen h in_hand = (whole seen, h)

@@ -24,12 +24,12 @@ pub record Conversation : Type 0 where
   pub began : DevicesState
 
 -- what it stands at before its first line
-abbrev pub start_of : Conversation → EngineState
-start_of c = opening c.options c.size
+abbrev pub first_state_of : Conversation → EngineState
+first_state_of c = opening c.options c.size
 
 -- since then this was taken and that given, and each read that was answered came after the answers
 -- to all whole lines before it
-pub record Keeps (start : EngineState) (used : Supply) (old new : Told)
+pub record TookAndGave (start : EngineState) (used : Supply) (old new : Told)
     (seen text : List ℕ) : Type 0 where
   pub taken : new.taken ≡ old.taken ++ seen
   pub moved : old.to_come ≡ seen ++ new.to_come
@@ -49,25 +49,25 @@ pub record HasAnswered (c : Conversation) (now : DevicesState) (engine : EngineS
   pub used : Supply
   pub uses : UsesUp c.options (shelf_and_archive c.began) (shelf_and_archive now) used []
   pub given : List ℕ
-  pub says : talk (start_of c) used answered ≡ all_used (given ++ held) engine ending
+  pub says : talk (first_state_of c) used answered ≡ all_used (given ++ held) engine ending
   pub first : (others : List (List ℕ)) × (lines taken ≡ answered ++ others)
   pub in_limit : length taken ≤ c.limit
-  pub told : Both c.began.link now.link (λ o n. Keeps (start_of c) used o n taken given)
+  pub told : Both c.began.link now.link (λ o n. TookAndGave (first_state_of c) used o n taken given)
   pub counts : CountsStop c.began now None
 
 -- the same between two lines: the talk goes on, and of what was taken all whole lines up to here
 -- were answered
-pub record Stands (c : Conversation) (now : DevicesState) (engine : EngineState)
+pub record IsBetweenLines (c : Conversation) (now : DevicesState) (engine : EngineState)
     (splitter : SplitterData) (held seen taken : List ℕ) : Type 0 where
   pub so_far : HasAnswered c now engine held taken (whole seen) Going
   pub in_hand : StandsAfter splitter seen
 
 -- the same after a line, by whether quit was answered
-abbrev pub StandsOrQuit : Bool → Conversation → DevicesState → EngineState → SplitterData → List ℕ
-    → List ℕ → List ℕ → Type 0
-StandsOrQuit false c now engine splitter held seen taken =
-    Stands c now engine splitter held seen taken
-StandsOrQuit true c now engine splitter held seen taken =
+abbrev pub IsBetweenLinesOrQuit : Bool → Conversation → DevicesState → EngineState → SplitterData
+    → List ℕ → List ℕ → List ℕ → Type 0
+IsBetweenLinesOrQuit false c now engine splitter held seen taken =
+    IsBetweenLines c now engine splitter held seen taken
+IsBetweenLinesOrQuit true c now engine splitter held seen taken =
     (answered : List (List ℕ)) × HasAnswered c now engine held taken answered AfterQuit
 
 -- the input came to its end

@@ -2,7 +2,7 @@
 use Rattle.std.proofs.Common.{◌≡◌, ◌≤◌, ◌+◌, Ok, Err, [], ◌++◌, length, take, refl, arith, ◌∙◌}
 use Rattle.std.proofs.lemmas.Result.{err_from_is_err_and}
 use Rattle.htp_session.proofs.Pieces.{length-front}
-use Rattle.htp_session.proofs.Conversations.{stands_nothing}
+use Rattle.htp_session.proofs.Conversations.{before_first_byte}
 use Rattle.htp_session.proofs.Outcomes.{came_unbegun, came_unread, came_overlong}
 use Rattle.htp_session.proofs.ReadPieces.{reads_piece, took_piece, came_by_finish}
 use Rattle.htp_session.proofs.conversation.converse.Goals as goal
@@ -10,7 +10,7 @@ use Rattle.htp_session.proofs.conversation.converse.Goals as goal
 pub pieces-init : goal.pieces-init
 pieces-init g c = record {
   in_limit = omega arith;
-  stands = ([], refl, stands_nothing _ _ _ c.in-Ok.ensures.engine c.in-Ok.ensures.in_hand);
+  between_lines = ([], refl, before_first_byte _ _ _ c.in-Ok.ensures.engine c.in-Ok.ensures.in_hand);
 }
 
 pub returns-in_default-clause-converses : goal.returns-in_default-clause-converses
@@ -25,14 +25,14 @@ pub returns-in_err-count : goal.returns-in_err-count
 returns-in_err-count g c =
     let p = err_from_is_err_and c.from_residual.result c.from_residual.ensures.1 in
     let r = c.in_err-count.ensures in
-    let came = came_unread c.pieces.invariant.stands.2 r.shelf_and_archive r.reads r.counts in
+    let came = came_unread c.pieces.invariant.between_lines.2 r.shelf_and_archive r.reads r.counts in
     rw (p.1, p.2) (record { converses = came.converses; counts = came.counts })
 
 pub returns-then-count-eq0 : goal.returns-then-count-eq0
 returns-then-count-eq0 g c =
     let r = c.in_ok-count.ensures in
     let came = came_by_finish c.finish.new.devices c.pieces.session c.pieces.total
-    (Ok c.in_ok-finish.field-0) c.pieces.invariant.stands
+    (Ok c.in_ok-finish.field-0) c.pieces.invariant.between_lines
     (reads_piece c.read.new.buffer c.in_ok-count.count r.shelf_and_archive r.reads r.counts)
     c.if-count-eq0.true c.in_ok-finish.ensures.finishes in
     record { converses = came.converses; counts = came.counts }
@@ -42,7 +42,7 @@ returns-in_err-finish g c =
     let p = err_from_is_err_and c.from_residual-in_err-finish.result c.from_residual-in_err-finish.ensures.1 in
     let r = c.in_ok-count.ensures in
     let came = came_by_finish c.finish.new.devices c.pieces.session c.pieces.total
-    (Err c.in_err-finish.field-0.0) c.pieces.invariant.stands
+    (Err c.in_err-finish.field-0.0) c.pieces.invariant.between_lines
     (reads_piece c.read.new.buffer c.in_ok-count.count r.shelf_and_archive r.reads r.counts)
     c.if-count-eq0.true c.in_err-finish.ensures.finishes in
     rw (p.1, p.2) (record { converses = came.converses; counts = came.counts })
@@ -53,7 +53,7 @@ returns-then-total-limit g c =
     let r = c.in_ok-count.ensures in
     let fits : n ≤ length c.read.new.buffer = omega (arith, r.bound) in
     let one : n ≡ 1 = omega (arith, r.bound) in
-    let at = c.pieces.invariant.stands in
+    let at = c.pieces.invariant.between_lines in
     let came = came_overlong c.read.new.buffer n at.2 r.shelf_and_archive r.reads r.counts
     (at.1 ∙ c.if-total-limit.true) (length-front c.read.new.buffer n fits ∙ one) in
     record { converses = came.converses; counts = came.counts }
@@ -64,10 +64,10 @@ returns-in_err-feed g c =
     let r = c.in_ok-count.ensures in
     let fits : n ≤ length c.read.new.buffer = omega (arith, r.bound) in
     let few : c.pieces.total + n ≤ c.args.limit = omega (arith, r.bound) in
-    let t = took_piece c.pieces.session c.pieces.total c.pieces.invariant.stands fits
+    let t = took_piece c.pieces.session c.pieces.total c.pieces.invariant.between_lines fits
     (reads_piece c.read.new.buffer n r.shelf_and_archive r.reads r.counts) few in
     let p = err_from_is_err_and c.from_residual-in_err-feed.result c.from_residual-in_err-feed.ensures.1 in
-    let came = c.in_err-feed.ensures.feeds _ t.seen t.stands in
+    let came = c.in_err-feed.ensures.feeds _ t.seen t.between_lines in
     rw (p.1, p.2) (record { converses = came.converses; counts = came.counts })
 
 pub returns-then-branch : goal.returns-then-branch
@@ -76,9 +76,9 @@ returns-then-branch g c =
     let r = c.in_ok-count.ensures in
     let fits : n ≤ length c.read.new.buffer = omega (arith, r.bound) in
     let few : c.pieces.total + n ≤ c.args.limit = omega (arith, r.bound) in
-    let t = took_piece c.pieces.session c.pieces.total c.pieces.invariant.stands fits
+    let t = took_piece c.pieces.session c.pieces.total c.pieces.invariant.between_lines fits
     (reads_piece c.read.new.buffer n r.shelf_and_archive r.reads r.counts) few in
-    let came = (rw c.if-branch.true at c.in_ok-feed.ensures.feeds) _ t.seen t.stands in
+    let came = (rw c.if-branch.true at c.in_ok-feed.ensures.feeds) _ t.seen t.between_lines in
     record { converses = came.converses; counts = came.counts }
 
 pub pieces-preserved : goal.pieces-preserved
@@ -87,13 +87,13 @@ pieces-preserved g c =
     let r = c.in_ok-count.ensures in
     let fits : n ≤ length c.read.new.buffer = omega (arith, r.bound) in
     let few : c.pieces.total + n ≤ c.args.limit = omega (arith, r.bound) in
-    let t = took_piece c.pieces.session c.pieces.total c.pieces.invariant.stands fits
+    let t = took_piece c.pieces.session c.pieces.total c.pieces.invariant.between_lines fits
     (reads_piece c.read.new.buffer n r.shelf_and_archive r.reads r.counts) few in
     record {
       in_limit = few;
-      stands = (
+      between_lines = (
         t.seen ++ take n c.read.new.buffer,
         t.many,
-        (rw c.if-branch.false at c.in_ok-feed.ensures.feeds) _ t.seen t.stands,
+        (rw c.if-branch.false at c.in_ok-feed.ensures.feeds) _ t.seen t.between_lines,
       );
     }

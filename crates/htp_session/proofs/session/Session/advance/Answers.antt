@@ -2,15 +2,15 @@
 use Rattle.std.proofs.Common.{◌≡◌, ◌++◌, true, false, sym, subst, take, rules}
 use Rattle.std.proofs.lemmas.Result.{err_from_is_err_and}
 use Rattle.htp_line.specs.Splitting.{StandsAfter}
-use Rattle.htp_session.proofs.NextLines.{next_line, next_answered, next_stopped, stands_open}
-use Rattle.htp_session.proofs.NextLines.{stands_or_quit}
+use Rattle.htp_session.proofs.NextLines.{next_line, next_answered, next_stopped, between_lines_open}
+use Rattle.htp_session.proofs.NextLines.{between_lines_or_quit}
 use Rattle.htp_session.proofs.Pieces.{front_of}
 use Rattle.htp_session.proofs.session.Session.advance.Goals as goal
 
 pub returns-then-not-fed-clause-advances : goal.returns-then-not-fed-clause-advances
 returns-then-not-fed-clause-advances g c =
     let ended : c.push-fed.new.self.ended ≡ false = search rules in
-    λ k seen taken parts h. stands_open h (c.push-fed.ensures.stream seen h.in_hand) ended
+    λ k seen taken parts h. between_lines_open h (c.push-fed.ensures.stream seen h.in_hand) ended
 
 pub returns-in_err-quit-clause-advances : goal.returns-in_err-quit-clause-advances
 returns-in_err-quit-clause-advances g c =
@@ -31,7 +31,7 @@ returns-clause-advances g c =
     λ k seen taken parts h.
     let adv = c.push-fed.ensures.stream seen h.in_hand in
     let front = seen ++ take n c.args.piece.now in
-    stands_or_quit c.in_ok-quit.quit c.answer.new.self.splitter front
+    between_lines_or_quit c.in_ok-quit.quit c.answer.new.self.splitter front
     (next_answered c.answer.new.self.engine c.answer.new.self.out.items h.so_far
     (next_line _ (front_of seen taken c.args.piece.now n parts) adv ended)
     c.in_ok-quit.quit c.in_ok-quit.ensures.writes c.in_ok-quit.ensures.counts)
