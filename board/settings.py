@@ -9,7 +9,7 @@ from pathlib import Path
 # How strongly hexd plays for the page, the board and hexd-gtp: `strengths` by their names, whose numbers may go by the size of
 # the board; how numbers are chosen for a clock; and an opening near even for each size.
 TABLE = json.loads(Path(__file__).resolve().with_name("settings.json").read_text())
-# What hexd's look-ahead once said of each first stone of boards on which nothing is proved, by tools/first_stones.py.
+# What hexd's look-ahead once said of each first stone of boards on which not all is proved, by tools/first_stones.py.
 GUESSED = json.loads(Path(__file__).resolve().with_name("guessed.json").read_text())
 # The ranges of hexd's own options of these names.
 RANGES = {"playouts": (1, 1_000_000), "weight": (0, 1_024), "workers": (1, 64)}

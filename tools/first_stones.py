@@ -1,7 +1,7 @@
 #!/usr/bin/env python3
 """What hexd's look-ahead says of Black's first stones: tools/first_stones.py [--look N] [--out FILE] [SIZE..]
 
-For each size, 8 to 11 if none is said, of which no opening is proved, and each cell it asks a hexd of its own for White's move
+For each size, 8 to 11 if none is said, of which not all openings are proved, and each cell it asks a hexd of its own for White's move
 after Black's first stone, and keeps what that is worth to Black, in thousandths. The board turned by half a circle is the same
 board, so of two opposite cells the first stands for both. FILE, board/guessed.json if it isn't said, has them, with the options
 and the commit of the released program (release/RECORD), which alone is asked. It goes on where it was ended: what is there by

@@ -68,8 +68,8 @@ fn search(alloc: Global, root: &State, budget: u64, sought: &mut Sought) -> Resu
     Ok(())
 }
 
-// Decides who wins, and makes a draft of what that found. The search itself is let go then: who owns
-// it does nothing else, since each way out of a function drops what it owns.
+// Decides who wins, and makes a draft of what that found. The search itself is let go then: who
+// owns it does nothing else, since each way out of a function drops what it owns.
 fn drafted(
     alloc: Global,
     root: &State,

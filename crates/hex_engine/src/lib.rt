@@ -38,9 +38,9 @@
 //!   load or turn that doesn't fit stops the conversation.
 //! - `Engine::obey_with` is made for every number of turns; the count is a `u64`, and a `genmove`
 //!   that would pass its end is answered as out of memory, which no session reaches.
-//! - The engine keeps the last turn's texts and neither its tree nor its reports, so that their
-//!   memory is free before the next turn. What a turn needs (its texts, its vertex, the count) is
-//!   made before it is handed over: after `archive.take` nothing can fail.
+//! - The engine keeps the last turn's texts and not its tree, whose memory is free before the next
+//!   turn. What a turn needs (its texts, its vertex, the count) is made before it is handed over:
+//!   after `archive.take` nothing can fail.
 //! - A quiet command is a type of its own. What it does is a reply and the game after it, so
 //!   options, number of turns and last texts stay by construction, and no proof has a table of
 //!   commands.

@@ -6,10 +6,10 @@
 //! planned ([`Planned`]) keeps none of the reports. A *threat* ([`Threat`]) is a certificate that
 //! the other player wins if he is to place next, with its carrier; the *mustplay region* is the
 //! cells that lie in each threat's carrier. A *turn* ([`Turn`]) is a board, the player to move
-//! there, its number, what was planned, the closed tree that was searched for it, if one was, and
-//! the cell that was chosen. An *archive* takes each turn ([`Archive`]). A turn is *good* for a
-//! session's knobs if it is what the session owes at that board: the definition `IsGood` of
-//! specs/Good.antt.
+//! there, its number, what was planned, what a look-ahead found and the closed tree that was
+//! searched, if there are such, and the cell that was chosen. An *archive* takes each turn
+//! ([`Archive`]). A turn is *good* for a session's knobs if it is what the session owes at that
+//! board: the definition `IsGood` of specs/Good.antt.
 //!
 //! **A caller** asks [`may_move`], plans, searches if the plan is a search, makes the turn and its
 //! texts, and hands it to an archive (`decided_turn` of turn_search is this up to the texts). After
@@ -80,9 +80,9 @@
 //! - A certificate that was found wins by its claimed line, a `move`: the board of this line's
 //!   scope is that with the stone. If it claims another line the plan rests on connections.
 //! - A cell that the look-ahead knows to win has a certificate if the solver has one of the board
-//!   after the stone, where less is to be shown than before it. Of this one is made by a `put` and
-//!   a `move` more, and checked, so nothing is proved of how. Such a turn keeps nothing of the
-//!   look-ahead: its plan has no allowed cells, of which the rows would be.
+//!   after the stone, where less is to be shown than before it. Of this one is made by two lines
+//!   `put` and a `move` more, and checked, so nothing is proved of how. Such a turn keeps nothing
+//!   of the look-ahead: its plan has no allowed cells, of which the rows would be.
 //! - The certificate of a loss is made, then checked, so nothing is proved of how it is made. It is
 //!   cut from a full entry between the edges if there is one: of two or three threats that have no
 //!   cell in common the report makes one. Else it is an `or` of the threats that are needed. It is

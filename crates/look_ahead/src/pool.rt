@@ -39,7 +39,7 @@ impl Both {
         })
     }
 
-    /// Room for copies alone.
+    /// No links, and room to keep others alone.
     pub(crate) fn bare(alloc: Global) -> Both {
         Both {
             black: Links::bare(alloc),
@@ -176,7 +176,7 @@ impl Pool {
         Some(slot)
     }
 
-    /// Keeps these copies of links as those of a node: in which slot. Who had them gets others.
+    /// Keeps these links as those of a node: in which slot. Who had them gets others.
     pub(crate) fn keep(
         &mut self,
         alloc: Global,
