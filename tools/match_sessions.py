@@ -2,7 +2,8 @@
 """Plays the games of a match by two sessions of `hexd htp` each, and compares their records with those of `hexmatch`.
 
 A side's session has the side's options and its seed of the game, and takes the other side's moves, and the opening, by `play`.
-It looks for connections exactly if the side has a look-ahead or a solver. It says nothing if the records are the same.
+Before each of its own it takes the last stone back and plays it again, since a match keeps no tree of a look-ahead. It looks for
+connections exactly if the side has a look-ahead or a solver. It says nothing if the records are the same.
 """
 
 import re
@@ -47,16 +48,20 @@ def session(setting, side, game):
 
 def session_record(setting, game):
     black, white = [session(setting, side, game) for side in ("ab" if game % 2 == 0 else "ba")]
-    mover, other, colour = black, white, "black"
+    mover, other, colour, last = black, white, "black", []
     if "opening" in setting:
         # Two games have each opening.
         openings = setting["opening"].split(",")
+        last = [f"play black {openings[game // 2 % len(openings)]}"]
         for one in [black, white]:
-            one.ask(f"play black {openings[game // 2 % len(openings)]}")
+            one.ask(*last)
         mover, other, colour = white, black, "white"
     while black.ask("winner").text == "none":
+        for line in ["undo", *last] if last else []:
+            mover.ask(line)
         move = mover.ask(f"genmove {colour}")
-        if not (move.done and other.ask(f"play {colour} {move.text}").done):
+        last = [f"play {colour} {move.text}"]
+        if not (move.done and other.ask(*last).done):
             return f"game {game}: {colour} {move.text}"
         mover, other, colour = other, mover, "white" if colour == "black" else "black"
     record = black.ask("printsgf").text
