@@ -3,7 +3,7 @@
 use circuit::Circuit;
 use hex_board::Board;
 use hex_cells::{Cell, Colour, MOST_CELLS, Size};
-use live_links::{Links, Room, Until};
+use live_links::{KeptLinks, Links, MOST_ENTRIES, Room, Until};
 use std::alloc::Global;
 use std::rt::HostRuntime;
 use std::test::Fail;
@@ -95,13 +95,14 @@ fn compare(
     colour: Colour,
     sums: &mut Sums,
 ) -> Result<(), Fail> {
-    let mut kept = Links::bare(alloc);
+    let mut kept = KeptLinks::none(alloc);
     let mut after = Links::make(alloc)?;
     let mut anew = Links::make(alloc)?;
-    let mut room = Room::make(alloc);
+    let mut room = Room::make(alloc)?;
     let mut circuit = Circuit::make(alloc)?;
     anew.load(board, player, Until::Closed)?;
-    kept.keep(&mut anew);
+    kept.make_room(MOST_ENTRIES)?;
+    kept.keep(&anew)?.then_some(()).ok_or("room")?;
     let mut rest = board.empties();
     for _cell in 0..MOST_CELLS {
         let Some(cell) = rest.least() else {

@@ -7,7 +7,7 @@ use std::alloc::AllocError;
 
 /// The most entries, those that were given up counted too: more than any board of 11 by 11 was seen
 /// to have. Those past them are left out.
-pub(crate) const MOST_ENTRIES: usize = 15_000;
+pub const MOST_ENTRIES: usize = 15_000;
 
 impl Links {
     /// Adds an entry, if its pair wants it, in place of those around it, or else of the widest one

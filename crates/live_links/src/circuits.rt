@@ -46,7 +46,7 @@ impl Links {
         };
         nodes.places[SECOND as usize] = 1;
         let edges = Bits::single(FIRST).union(Bits::single(SECOND));
-        let mut rest = self.active.minus(edges);
+        let mut rest = self.elements.active.minus(edges);
         for place in 2..MOST_ELEMENTS {
             let Some(element) = rest.take() else {
                 break;

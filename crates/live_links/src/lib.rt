@@ -7,7 +7,7 @@
 //! them.
 //!
 //! **A caller** makes [`Links`] of a board from nothing ([`Links::load`]), or from those of a board
-//! with fewer stones, which were kept ([`Links::keep`], [`Links::follow`]). It reads whether an
+//! with fewer stones, which were kept ([`KeptLinks`], [`Links::follow`]). It reads whether an
 //! entry leads from edge to edge ([`Links::has_any`], [`Links::has_full`]), and which cells all
 //! semi ones between them have in common ([`Links::common`]), and draws their circuit
 //! ([`Links::draw`]).
@@ -17,8 +17,8 @@
 //! **What is only tested, or not said.** That the entries are true, and how many are found. Whoever
 //! searches by them has to choose well by any of them.
 //!
-//! **Limits.** 15,000 entries of 24 bytes: 0.6 MB for links, and at most 0.4 MB for those that are
-//! kept ([`Links::bare`]), with room for a few entries more than there are.
+//! **Limits.** 15,000 entries of 24 bytes: 0.6 MB for links, and for those that are kept as many as
+//! they were given room for. What has room takes no memory any more.
 //!
 //! **Why so.**
 //!
@@ -43,6 +43,7 @@ mod bits;
 mod changes;
 mod circuits;
 mod entries;
+mod keeping;
 mod links;
 mod loading;
 mod losses;
@@ -51,5 +52,7 @@ mod queues;
 mod rules;
 mod stones;
 
+pub use adding::MOST_ENTRIES;
+pub use keeping::KeptLinks;
 pub use links::{Links, Until};
 pub use stones::Room;

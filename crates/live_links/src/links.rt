@@ -1,5 +1,6 @@
 //! What a player's links have: his elements, and the entries by pair.
 
+use super::adding::MOST_ENTRIES;
 use super::bits::Bits;
 use super::entries::{Entry, Pair};
 use super::pairs::Pairs;
@@ -29,36 +30,25 @@ pub enum Until {
     FullWin,
 }
 
-/// A player's elements on a board, and the connections between them.
-#[derive(Drop)]
-pub struct Links {
-    pub(crate) size: Size,
-    pub(crate) colour: Colour,
-    pub(crate) stones: CellSet,
-    pub(crate) empties: Bits,
-    // The elements that there are.
-    pub(crate) active: Bits,
-    // The element of each cell.
-    pub(crate) of: [u8; MOST_CELLS as usize],
-    // Of each element those with which it has a full entry that was taken.
-    pub(crate) ways: [Bits; 256],
-    pub(crate) entries: Vec<Entry>,
-    // The entries of each pair.
-    pub(crate) pairs: Pairs,
-    pub(crate) queue: Queue,
+/// A player's elements on a board.
+#[derive(Clone, Copy)]
+pub(crate) struct PlayerElements {
+    pub size: Size,
+    pub colour: Colour,
+    pub stones: CellSet,
+    pub empties: Bits,
+    /// The elements that there are.
+    pub active: Bits,
+    /// The element of each cell.
+    pub of: [u8; MOST_CELLS as usize],
+    /// Of each element those with which it has a full entry that was taken.
+    pub ways: [Bits; 256],
 }
 
-impl Links {
-    /// No links.
-    pub fn make(alloc: Global) -> Result<Links, AllocError> {
-        let mut links = Links::bare(alloc);
-        links.pairs = Pairs::make(alloc)?;
-        Ok(links)
-    }
-
-    /// No links, and no room for what their pairs have: to keep others alone ([`Links::keep`]).
-    pub fn bare(alloc: Global) -> Links {
-        Links {
+impl PlayerElements {
+    /// No elements.
+    pub(crate) fn none() -> PlayerElements {
+        PlayerElements {
             size: Size::LARGEST,
             colour: Colour::Black,
             stones: CellSet::none(),
@@ -66,19 +56,40 @@ impl Links {
             active: Bits::none(),
             of: [NO_ELEMENT; MOST_CELLS as usize],
             ways: [Bits::none(); 256],
-            entries: Vec::new(alloc),
-            pairs: Pairs::none(alloc),
-            queue: Queue::none(),
         }
+    }
+}
+
+/// A player's elements on a board, and the connections between them.
+#[derive(Drop)]
+pub struct Links {
+    pub(crate) elements: PlayerElements,
+    pub(crate) entries: Vec<Entry>,
+    // The entries of each pair.
+    pub(crate) pairs: Pairs,
+    pub(crate) queue: Queue,
+}
+
+impl Links {
+    /// No links, and room for as many entries as there may be.
+    pub fn make(alloc: Global) -> Result<Links, AllocError> {
+        let mut entries = Vec::new(alloc);
+        entries.reserve(MOST_ENTRIES)?;
+        Ok(Links {
+            elements: PlayerElements::none(),
+            entries,
+            pairs: Pairs::make(alloc)?,
+            queue: Queue::none(),
+        })
     }
 
     // Makes these those of a player on a board, before any entry is added.
     pub(crate) fn clear(&mut self, board: &Board, colour: Colour) {
-        self.size = board.size();
-        self.colour = colour;
-        self.stones = board.stones(colour);
-        self.empties = Bits::of(board.empties());
-        self.ways = [Bits::none(); 256];
+        self.elements.size = board.size();
+        self.elements.colour = colour;
+        self.elements.stones = board.stones(colour);
+        self.elements.empties = Bits::of(board.empties());
+        self.elements.ways = [Bits::none(); 256];
         self.entries.clear();
         self.pairs.clear();
         self.queue = Queue::none();
@@ -101,7 +112,7 @@ impl Links {
 
     /// The empty cells that all semi entries between the edges have in common.
     pub fn common(&self) -> CellSet {
-        let mut common = self.empties;
+        let mut common = self.elements.empties;
         for number in self.pairs.at(Pair::of(false, FIRST, SECOND)).numbers() {
             if let Some(entry) = self.entries.get(*number as usize) {
                 common = common.meet(entry.carrier);
@@ -113,21 +124,21 @@ impl Links {
     /// The set of an element that is an empty cell; none of a group.
     #[inline(always)]
     pub(crate) fn alone(&self, element: u8) -> Bits {
-        Bits::single(element).meet(self.empties)
+        Bits::single(element).meet(self.elements.empties)
     }
 
     /// Says that a full entry was taken between two elements.
     pub(crate) fn link(&mut self, x: u8, y: u8) {
-        self.ways[x as usize] = self.ways[x as usize].union(Bits::single(y));
-        self.ways[y as usize] = self.ways[y as usize].union(Bits::single(x));
+        self.elements.ways[x as usize] = self.elements.ways[x as usize].union(Bits::single(y));
+        self.elements.ways[y as usize] = self.elements.ways[y as usize].union(Bits::single(x));
     }
 
     /// Says that none was, if none that is left was.
     pub(crate) fn unlink(&mut self, pair: Pair) {
         if pair.is_full && !self.pairs.at(pair).has_taken(&self.entries) {
             let (x, y) = (pair.x, pair.y);
-            self.ways[x as usize] = self.ways[x as usize].minus(Bits::single(y));
-            self.ways[y as usize] = self.ways[y as usize].minus(Bits::single(x));
+            self.elements.ways[x as usize] = self.elements.ways[x as usize].minus(Bits::single(y));
+            self.elements.ways[y as usize] = self.elements.ways[y as usize].minus(Bits::single(x));
         }
     }
 }

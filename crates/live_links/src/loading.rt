@@ -18,11 +18,11 @@ impl Links {
 
     // Numbers the elements.
     fn number(&mut self, empties: CellSet) {
-        let (size, stones) = (self.size, self.stones);
-        self.of = [NO_ELEMENT; MOST_CELLS as usize];
-        self.active = Bits::none();
-        let first = flood(edge(self.colour, false, size), stones, size);
-        let second = flood(edge(self.colour, true, size), stones, size).minus(first);
+        let (size, stones) = (self.elements.size, self.elements.stones);
+        self.elements.of = [NO_ELEMENT; MOST_CELLS as usize];
+        self.elements.active = Bits::none();
+        let first = flood(edge(self.elements.colour, false, size), stones, size);
+        let second = flood(edge(self.elements.colour, true, size), stones, size).minus(first);
         self.name(first, FIRST);
         self.name(second, SECOND);
         let mut rest = stones.union(empties).minus(first).minus(second);
@@ -38,14 +38,14 @@ impl Links {
 
     // Says of these cells that they are this element, and that there is one.
     fn name(&mut self, cells: CellSet, element: u8) {
-        self.active = self.active.union(Bits::single(element));
+        self.elements.active = self.elements.active.union(Bits::single(element));
         let mut rest = cells;
         for _cell in 0..MOST_CELLS {
             let Some(cell) = rest.least() else {
                 return;
             };
             rest = rest.without(cell);
-            self.of[cell.number() as usize] = element;
+            self.elements.of[cell.number() as usize] = element;
         }
     }
 
@@ -61,7 +61,7 @@ impl Links {
             let single = CellSet::none().with(cell);
             self.add_near_edge(element, single, false)?;
             self.add_near_edge(element, single, true)?;
-            self.add_beside(element, single.around(self.size))?;
+            self.add_beside(element, single.around(self.elements.size))?;
         }
         Ok(())
     }
@@ -73,7 +73,7 @@ impl Links {
         cell: CellSet,
         second: bool,
     ) -> Result<(), AllocError> {
-        if cell.meets(edge(self.colour, second, self.size)) {
+        if cell.meets(edge(self.elements.colour, second, self.elements.size)) {
             let edge = if second { SECOND } else { FIRST };
             self.add(Pair::of(true, element, edge), Bits::none())?;
         }
@@ -88,7 +88,7 @@ impl Links {
                 break;
             };
             rest = rest.without(cell);
-            let other = self.of[cell.number() as usize];
+            let other = self.elements.of[cell.number() as usize];
             if other != NO_ELEMENT && other != element {
                 self.add(Pair::of(true, element, other), Bits::none())?;
             }

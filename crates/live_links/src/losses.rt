@@ -10,12 +10,12 @@ use std::alloc::AllocError;
 impl Links {
     /// The other player's stones, of which these are all: their cells are no elements any more.
     pub(crate) fn lose(&mut self, stones: Bits, change: &mut Change) {
-        let lost = stones.meet(self.empties);
+        let lost = stones.meet(self.elements.empties);
         change.lost = lost;
         change.end_at(lost);
-        self.empties = self.empties.minus(lost);
-        self.active = self.active.minus(lost);
-        for of in self.of.iter_mut() {
+        self.elements.empties = self.elements.empties.minus(lost);
+        self.elements.active = self.elements.active.minus(lost);
+        for of in self.elements.of.iter_mut() {
             if lost.has(*of) {
                 *of = NO_ELEMENT;
             }
@@ -29,7 +29,7 @@ impl Links {
             return Ok(());
         }
         let edges = Bits::single(FIRST).union(Bits::single(SECOND));
-        let ways = self.ways[pair.x as usize].meet(self.ways[pair.y as usize]);
+        let ways = self.elements.ways[pair.x as usize].meet(self.elements.ways[pair.y as usize]);
         let mut middles = ways.minus(edges);
         for _middle in 0..MOST_ELEMENTS {
             let Some(middle) = middles.take() else {

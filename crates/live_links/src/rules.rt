@@ -57,7 +57,7 @@ impl Links {
         let ours = carrier.union(between);
         let size = ours.count();
         let closed = carrier.union(self.alone(end));
-        let mut rest = self.ways[middle as usize]
+        let mut rest = self.elements.ways[middle as usize]
             .minus(Bits::single(end))
             .minus(carrier);
         for _way in 0..MOST_ELEMENTS {

@@ -4,12 +4,12 @@ use super::adding::MOST_ENTRIES;
 use super::bits::Bits;
 use super::changes::Change;
 use super::entries::{Entry, Pair, State};
+use super::keeping::KeptLinks;
 use super::links::{FIRST, Links, SECOND, Until};
 use super::queues::Queue;
 use hex_board::Board;
 use hex_cells::{Cell, CellSet, MOST_CELLS, edge};
 use std::alloc::{AllocError, Global};
-use std::mem::swap;
 
 /// Room for what changes.
 #[derive(Drop)]
@@ -21,56 +21,43 @@ pub struct Room {
 }
 
 impl Room {
-    /// Room that is empty.
-    pub fn make(alloc: Global) -> Room {
-        Room {
+    /// Room for what can change.
+    pub fn make(alloc: Global) -> Result<Room, AllocError> {
+        let mut room = Room {
             changed: Vec::new(alloc),
             gone: Vec::new(alloc),
-        }
+        };
+        room.changed.reserve(MOST_ENTRIES)?;
+        room.gone.reserve(MOST_ENTRIES)?;
+        Ok(room)
     }
 }
 
 impl Links {
-    /// Makes these the links on a board from those on one that has fewer stones. `before` was kept
-    /// ([`Links::keep`]).
+    /// Makes these the links on a board from those on one that has fewer stones.
     pub fn follow(
         &mut self,
-        before: &Links,
+        before: &KeptLinks,
         board: &Board,
         until: Until,
         room: &mut Room,
     ) -> Result<(), AllocError> {
-        self.copy_elements(before);
+        self.elements = before.elements;
         let mut change = Change::none();
-        self.lose(Bits::of(board.stones(self.colour.other())), &mut change);
-        self.gain_all(board.stones(self.colour), &mut change);
+        self.lose(
+            Bits::of(board.stones(self.elements.colour.other())),
+            &mut change,
+        );
+        self.gain_all(board.stones(self.elements.colour), &mut change);
         self.take_over(before, &change, room)?;
         self.make_up(room)?;
         self.add_again(&change, room)?;
         self.run(until)
     }
 
-    /// Makes these others, from which those with more stones can be made. The others are good for
-    /// nothing then but to be made anew.
-    pub fn keep(&mut self, other: &mut Links) {
-        self.copy_elements(other);
-        swap(&mut self.entries, &mut other.entries);
-    }
-
-    // Copies all but the entries.
-    fn copy_elements(&mut self, other: &Links) {
-        self.size = other.size;
-        self.colour = other.colour;
-        self.stones = other.stones;
-        self.empties = other.empties;
-        self.active = other.active;
-        self.of = other.of;
-        self.ways = other.ways;
-    }
-
     // The player's own stones, of which these are all.
     fn gain_all(&mut self, stones: CellSet, change: &mut Change) {
-        let mut gained = stones.minus(self.stones);
+        let mut gained = stones.minus(self.elements.stones);
         change.gained = Bits::of(gained);
         for _stone in 0..MOST_CELLS {
             let Some(cell) = gained.least() else {
@@ -87,10 +74,10 @@ impl Links {
         let single = Bits::single(own);
         let merged = self.groups_beside(cell).union(single);
         let name = name_of(merged.minus(single), own);
-        self.stones = self.stones.with(cell);
-        self.empties = self.empties.minus(single);
-        self.active = self.active.minus(merged).union(Bits::single(name));
-        for of in self.of.iter_mut() {
+        self.elements.stones = self.elements.stones.with(cell);
+        self.elements.empties = self.elements.empties.minus(single);
+        self.elements.active = self.elements.active.minus(merged).union(Bits::single(name));
+        for of in self.elements.of.iter_mut() {
             if merged.has(*of) {
                 *of = name;
             }
@@ -104,19 +91,19 @@ impl Links {
     fn groups_beside(&self, cell: Cell) -> Bits {
         let mut groups = Bits::none();
         let single = CellSet::none().with(cell);
-        if single.meets(edge(self.colour, false, self.size)) {
+        if single.meets(edge(self.elements.colour, false, self.elements.size)) {
             groups = groups.union(Bits::single(FIRST));
         }
-        if single.meets(edge(self.colour, true, self.size)) {
+        if single.meets(edge(self.elements.colour, true, self.elements.size)) {
             groups = groups.union(Bits::single(SECOND));
         }
-        let mut rest = single.around(self.size).meet(self.stones);
+        let mut rest = single.around(self.elements.size).meet(self.elements.stones);
         for _neighbour in 0..MOST_CELLS {
             let Some(neighbour) = rest.least() else {
                 break;
             };
             rest = rest.without(neighbour);
-            groups = groups.union(Bits::single(self.of[neighbour.number() as usize]));
+            groups = groups.union(Bits::single(self.elements.of[neighbour.number() as usize]));
         }
         groups
     }
@@ -124,16 +111,13 @@ impl Links {
     // Takes the entries over that stay as they are, and lists those of each pair.
     fn take_over(
         &mut self,
-        before: &Links,
+        before: &KeptLinks,
         change: &Change,
         room: &mut Room,
     ) -> Result<(), AllocError> {
         self.queue = Queue::none();
         self.pairs.clear();
         self.entries.clear();
-        // With some that come, so that they need not be moved.
-        let room_for = before.entries.len() / 4 * 5;
-        self.entries.reserve(room_for.min(MOST_ENTRIES))?;
         room.changed.clear();
         room.gone.clear();
         for entry in before.entries.iter() {

@@ -8,7 +8,6 @@ use super::pool::Pool;
 use super::refusals::Memory;
 use super::searches::{End, Fresh, Look};
 use hex_cells::{Colour, MOST_CELLS};
-use std::alloc::Global;
 use std::thread::{Threads, for_each_mut};
 
 impl Look {
@@ -16,7 +15,6 @@ impl Look {
     pub(super) fn batch<R: Threads + Sync>(
         &mut self,
         rt: &R,
-        alloc: Global,
         colour: Colour,
         most: usize,
     ) -> Result<(), Memory>
@@ -26,7 +24,7 @@ impl Look {
         let count = self.go_down(colour, most);
         judge_all(rt, &mut self.judges, count, &self.pool);
         'results: for number in 0..count.min(most) {
-            self.take(alloc, number)?;
+            self.take(number)?;
         }
         Ok(())
     }
@@ -100,7 +98,7 @@ impl Look {
     }
 
     // Takes what was found in the case with this number: a new node, whose value goes up.
-    fn take(&mut self, alloc: Global, number: usize) -> Result<(), Memory>
+    fn take(&mut self, number: usize) -> Result<(), Memory>
         ensures few { length self.new.nodes.items ≤ length self.old.nodes.items + 1 }
         ensures keeps { length self.old.nodes.items ≤ length self.new.nodes.items }
     {
@@ -110,11 +108,14 @@ impl Look {
         let Some((job, finding)) = case.take()? else {
             return Ok(());
         };
-        if job.slot.is_none() {
-            self.pool.keep(alloc, case.before(), job.above)?;
+        if let Some(before) = case.before() {
+            let slot = self.pool.keep(before, job.above);
+            if let Some(above) = self.nodes.get_mut(job.above as usize) {
+                above.slot = slot;
+            }
         }
         let place = number_of(self.nodes.len());
-        let node = self.node_of(alloc, number, &finding, job.above, place)?;
+        let node = self.node_of(number, &finding, job.above, place)?;
         self.nodes.push(node)?;
         if let Some(kid) = self.kids.get_mut(job.number as usize) {
             kid.node = place;
@@ -126,7 +127,6 @@ impl Look {
     /// The node that was found in the case with this number, below another one. It gets this place.
     pub(super) fn node_of(
         &mut self,
-        alloc: Global,
         number: usize,
         finding: &Finding,
         above: u32,
@@ -137,14 +137,13 @@ impl Look {
         match finding.state {
             State::Won => Ok(LookNode::decided(&finding.board, State::Won, above)),
             State::Lost => Ok(LookNode::decided(&finding.board, State::Lost, above)),
-            State::Open => self.open_node(alloc, number, finding, above, place),
+            State::Open => self.open_node(number, finding, above, place),
         }
     }
 
     // The same of an open one: its links are kept, and its kids.
     fn open_node(
         &mut self,
-        alloc: Global,
         number: usize,
         finding: &Finding,
         above: u32,
@@ -155,7 +154,9 @@ impl Look {
         let first = number_of(self.kids.len());
         let mut slot = usize::MAX;
         if let Some(case) = case_of(&mut self.judges, number) {
-            slot = self.pool.keep(alloc, case.after(), place)?;
+            if let Some(after) = case.after() {
+                slot = self.pool.keep(after, place);
+            }
             self.kids.extend_from_slice(case.kids())?;
         }
         let kids = first..number_of(self.kids.len());

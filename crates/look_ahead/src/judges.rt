@@ -2,7 +2,7 @@
 
 use super::filling::filled;
 use super::nodes::{Kid, NOWHERE, State};
-use super::pool::{Both, Pool, Verdict};
+use super::pool::{Both, KeptBoth, Pool, Verdict};
 use super::refusals::Memory;
 use super::values::{prior_of, value_of, worth};
 use circuit::Circuit;
@@ -48,9 +48,11 @@ impl Finding {
 #[derive(Drop)]
 pub(crate) struct Case {
     // Links that can be kept: those of an open board, and those of the node above, where they had
-    // to be made anew.
-    after: Both,
-    before: Both,
+    // to be made anew; and whether they are there, for which they must not be too many.
+    after: KeptBoth,
+    has_after: bool,
+    before: KeptBoth,
+    has_before: bool,
     // The kids of the board.
     kids: Vec<Kid>,
     job: Option<Job>,
@@ -61,17 +63,27 @@ impl Case {
     // One without a job.
     fn make(alloc: Global) -> Case {
         Case {
-            after: Both::bare(alloc),
-            before: Both::bare(alloc),
+            after: KeptBoth::none(alloc),
+            has_after: false,
+            before: KeptBoth::none(alloc),
+            has_before: false,
             kids: Vec::new(alloc),
             job: None,
             found: Ok(None),
         }
     }
 
+    // Makes room for links with so many entries of a player's.
+    fn make_room(&mut self, entries: usize) -> Result<(), Memory> {
+        self.after.make_room(entries)?;
+        self.before.make_room(entries)
+    }
+
     /// Gives it a job.
     pub(crate) fn give(&mut self, job: Job) {
         self.job = Some(job);
+        self.has_after = false;
+        self.has_before = false;
         self.found = Ok(None);
     }
 
@@ -85,14 +97,22 @@ impl Case {
         }
     }
 
-    /// The links of the board that was judged last, if it is open.
-    pub(crate) fn after(&mut self) -> &mut Both {
-        &mut self.after
+    /// The links of the board that was judged last, if it is open and they can be kept.
+    pub(crate) fn after(&mut self) -> Option<&mut KeptBoth> {
+        if self.has_after {
+            Some(&mut self.after)
+        } else {
+            None
+        }
     }
 
-    /// The links of the node above, if they were made anew.
-    pub(crate) fn before(&mut self) -> &mut Both {
-        &mut self.before
+    /// The links of the node above, if they were made anew and can be kept.
+    pub(crate) fn before(&mut self) -> Option<&mut KeptBoth> {
+        if self.has_before {
+            Some(&mut self.before)
+        } else {
+            None
+        }
     }
 
     /// The kids of the board that was judged last, if it is open.
@@ -120,6 +140,14 @@ impl Judge {
             judge.cases.push(Case::make(alloc))?;
         }
         Ok(judge)
+    }
+
+    /// Makes room in each case for links with so many entries of a player's.
+    pub(crate) fn make_room(&mut self, entries: usize) -> Result<(), Memory> {
+        for case in self.cases.iter_mut() {
+            case.make_room(entries)?;
+        }
+        Ok(())
     }
 
     /// The case with this number.
@@ -155,19 +183,22 @@ struct Scratch {
     other: Circuit,
     // The links of the board.
     fresh: Both,
+    // Those of the node above, where they aren't kept.
+    above: KeptBoth,
     room: Room,
 }
 
 impl Scratch {
     fn make(alloc: Global) -> Result<Scratch, Memory> {
-        let own = Circuit::make(alloc)?;
-        let other = Circuit::make(alloc)?;
-        Ok(Scratch {
-            own,
-            other,
+        let mut scratch = Scratch {
+            own: Circuit::make(alloc)?,
+            other: Circuit::make(alloc)?,
             fresh: Both::make(alloc)?,
-            room: Room::make(alloc),
-        })
+            above: KeptBoth::none(alloc),
+            room: Room::make(alloc)?,
+        };
+        scratch.above.make_room_for_any()?;
+        Ok(scratch)
     }
 
     // Does the job of a case, if it has one.
@@ -225,9 +256,10 @@ impl Scratch {
             return self.fresh.verdict(before, board, mover, &mut self.room);
         }
         self.fresh.load(&job.board)?;
-        case.before.keep(&mut self.fresh);
+        self.above.keep(&self.fresh)?;
+        case.has_before = case.before.keep(&self.fresh)?;
         self.fresh
-            .verdict(&case.before, board, mover, &mut self.room)
+            .verdict(&self.above, board, mover, &mut self.room)
     }
 
     // Judges an open board by the circuits of the fresh links, with kids on these cells.
@@ -241,7 +273,7 @@ impl Scratch {
         self.fresh.of(mover).draw(&mut self.own);
         self.fresh.of(mover.other()).draw(&mut self.other);
         self.find_kids(must, &mut case.kids)?;
-        case.after.keep(&mut self.fresh);
+        case.has_after = case.after.keep(&self.fresh)?;
         Ok(Finding {
             board: *board,
             state: State::Open,

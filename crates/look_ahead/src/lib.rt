@@ -41,9 +41,10 @@
 //!
 //! **Limits.** As many nodes as the budget. Each takes its own size and up to 121 kids of 12 bytes:
 //! before the first walk, for the first 10,000 of them. The links of the 320 nodes that were used
-//! last are kept, in at most 256 MB, and made anew where they are gone. Each thread takes up to
-//! 5 MB for the links that are made. In the end each cell that is taken for won or lost has one
-//! report of H-search, one cell after the other. All of that stays for the next search.
+//! last are kept, and made anew where they are gone: room for them, at most 190 MB, is made before
+//! the first walk too. Each thread takes up to 5 MB for the links that are made. In the end each
+//! cell that is taken for won or lost has one report of H-search, one cell after the other. All of
+//! that stays for the next search.
 //!
 //! **Why so.**
 //!

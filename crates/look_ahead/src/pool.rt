@@ -2,14 +2,18 @@
 
 use super::refusals::Memory;
 use hex_board::Board;
-use hex_cells::{CellSet, Colour};
-use live_links::{Links, Room, Until};
+use hex_cells::{CellSet, Colour, Size};
+use live_links::{KeptLinks, Links, MOST_ENTRIES, Room, Until};
 use std::alloc::Global;
 use std::mem::swap;
 
-// The links of so many nodes are kept. With 400 nodes on a board of 11 by 11 this took 130 MB, with
-// 160 of them 70 MB and a fifth more time, since those of more nodes had to be made anew.
-const MOST_KEPT: usize = 320;
+// The links of so many nodes are kept. With 160 of them 400 nodes on a board of 11 by 11 took a
+// fifth more time, since those of more nodes had to be made anew.
+const MOST_KEPT: u32 = 320;
+
+// So many entries for each cell of the board have room where a player's links are kept: no board of
+// 5 by 5 to 11 by 11 was seen to have more. Where there are more, they aren't kept.
+const ENTRIES_PER_CELL: u32 = 100;
 
 /// The place of no node.
 pub(crate) const NOWHERE: u32 = u32::MAX;
@@ -21,6 +25,40 @@ pub(crate) enum Verdict {
     Lost,
     /// He loses anywhere else than on one of these cells.
     Among(CellSet),
+}
+
+/// The links of both players on a board, as they are kept.
+#[derive(Drop)]
+pub(crate) struct KeptBoth {
+    black: KeptLinks,
+    white: KeptLinks,
+}
+
+impl KeptBoth {
+    /// No links, and no room.
+    pub(crate) fn none(alloc: Global) -> KeptBoth {
+        KeptBoth {
+            black: KeptLinks::none(alloc),
+            white: KeptLinks::none(alloc),
+        }
+    }
+
+    /// Makes room for so many entries of each player's.
+    pub(crate) fn make_room(&mut self, most: usize) -> Result<(), Memory> {
+        self.black.make_room(most)?;
+        self.white.make_room(most)?;
+        Ok(())
+    }
+
+    /// Makes room for any links.
+    pub(crate) fn make_room_for_any(&mut self) -> Result<(), Memory> {
+        self.make_room(MOST_ENTRIES)
+    }
+
+    /// Makes them these, if they have room: whether they had.
+    pub(crate) fn keep(&mut self, both: &Both) -> Result<bool, Memory> {
+        Ok(self.black.keep(&both.black)? && self.white.keep(&both.white)?)
+    }
 }
 
 /// The links of both players on a board.
@@ -37,20 +75,6 @@ impl Both {
             black: Links::make(alloc)?,
             white: Links::make(alloc)?,
         })
-    }
-
-    /// No links, and room to keep others alone.
-    pub(crate) fn bare(alloc: Global) -> Both {
-        Both {
-            black: Links::bare(alloc),
-            white: Links::bare(alloc),
-        }
-    }
-
-    /// Makes these others, which are good for nothing then but to be made anew.
-    pub(crate) fn keep(&mut self, other: &mut Both) {
-        self.black.keep(&mut other.black);
-        self.white.keep(&mut other.white);
     }
 
     /// A player's.
@@ -71,7 +95,7 @@ impl Both {
     // Makes a player's those on a board, from those of a board with fewer stones.
     fn follow(
         &mut self,
-        before: &Both,
+        before: &KeptBoth,
         player: Colour,
         board: &Board,
         until: Until,
@@ -88,7 +112,7 @@ impl Both {
     /// those of a board with fewer stones.
     pub(crate) fn verdict(
         &mut self,
-        before: &Both,
+        before: &KeptBoth,
         board: &Board,
         mover: Colour,
         room: &mut Room,
@@ -129,7 +153,7 @@ impl Mark {
 /// What is kept.
 #[derive(Drop)]
 pub(crate) struct Pool {
-    kept: Vec<Both>,
+    kept: Vec<KeptBoth>,
     // Of each slot, apart from the links, so that the oldest one is found soon.
     marks: Vec<Mark>,
     clock: u64,
@@ -143,6 +167,31 @@ impl Pool {
             marks: Vec::new(alloc),
             clock: 0,
         }
+    }
+
+    /// Makes room for the links of so many nodes, but of [`MOST_KEPT`] at most, with so many
+    /// entries of a player's each. What is kept may be gone.
+    pub(crate) fn make_room(
+        &mut self,
+        alloc: Global,
+        nodes: u32,
+        entries: usize,
+    ) -> Result<(), Memory> {
+        for kept in self.kept.iter_mut() {
+            kept.make_room(entries)?;
+        }
+        self.grow(alloc, nodes.min(MOST_KEPT) as usize, entries)
+    }
+
+    // Adds slots until there are so many.
+    fn grow(&mut self, alloc: Global, slots: usize, entries: usize) -> Result<(), Memory> {
+        for _slot in self.kept.len()..slots {
+            let mut kept = KeptBoth::none(alloc);
+            kept.make_room(entries)?;
+            self.kept.push(kept)?;
+            self.marks.push(Mark::none())?;
+        }
+        Ok(())
     }
 
     /// Says that nothing that is kept is of a node.
@@ -161,7 +210,7 @@ impl Pool {
     }
 
     /// The links in a slot.
-    pub(crate) fn at(&self, slot: usize) -> Option<&Both> {
+    pub(crate) fn at(&self, slot: usize) -> Option<&KeptBoth> {
         self.kept.get(slot)
     }
 
@@ -176,18 +225,9 @@ impl Pool {
         Some(slot)
     }
 
-    /// Keeps these links as those of a node: in which slot. Who had them gets others.
-    pub(crate) fn keep(
-        &mut self,
-        alloc: Global,
-        both: &mut Both,
-        node: u32,
-    ) -> Result<usize, Memory> {
+    /// Keeps these links as those of a node: in which slot. They get others for that.
+    pub(crate) fn keep(&mut self, both: &mut KeptBoth, node: u32) -> usize {
         self.clock = self.clock.saturating_add(1);
-        if self.kept.len() < MOST_KEPT {
-            self.kept.push(Both::bare(alloc))?;
-            self.marks.push(Mark::none())?;
-        }
         let slot = self.oldest();
         if let Some(kept) = self.kept.get_mut(slot)
             && let Some(mark) = self.marks.get_mut(slot)
@@ -196,7 +236,7 @@ impl Pool {
             mark.node = node;
             mark.used = self.clock;
         }
-        Ok(slot)
+        slot
     }
 
     // The slot that wasn't used for the longest time.
@@ -211,6 +251,11 @@ impl Pool {
         }
         oldest
     }
+}
+
+/// How many entries of a player's have room where links on a board of this size are kept.
+pub(crate) fn entries_on(size: Size) -> usize {
+    size.cells().saturating_mul(ENTRIES_PER_CELL) as usize
 }
 
 // What is known of a board by the links of the player who isn't to move, if the other doesn't win

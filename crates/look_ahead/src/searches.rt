@@ -7,11 +7,11 @@ ghost use Rattle.look_ahead.specs.Looked.{IsLookOf};
 use super::judges::Judge;
 use super::keeping::Last;
 use super::nodes::{Kid, LookNode, NOWHERE, State};
-use super::pool::Pool;
+use super::pool::{Pool, entries_on};
 use super::refusals::Memory;
 use super::rows::Looked;
 use hex_board::Board;
-use hex_cells::{Cell, CellSet, Colour, MOST_CELLS};
+use hex_cells::{Cell, CellSet, Colour, MOST_CELLS, Size};
 use std::alloc::Global;
 use std::thread::Threads;
 
@@ -121,13 +121,14 @@ impl Look {
     {
         self.begin(root, must, budget)?;
         self.make_room(budget.min(NODES_WITH_ROOM), must.count())?;
-        self.open_root(alloc, root, must)?;
+        self.make_room_for_links(alloc, budget, root.board.size())?;
+        self.open_root(root, must)?;
         'batches: for _batch in 0..u64::from(budget) * BATCHES_PER_NODE {
             let most = self.width(budget);
             if most == 0 {
                 break;
             }
-            self.batch(rt, alloc, root.colour, most)?;
+            self.batch(rt, root.colour, most)?;
         }
         let nodes = self.nodes.len() as u32;
         let looked = self.told(alloc, root, must, nodes)?;
@@ -152,15 +153,27 @@ impl Look {
         Ok(())
     }
 
+    // Makes room for the links of so many nodes, and for those that are made.
+    fn make_room_for_links(&mut self, alloc: Global, nodes: u32, size: Size) -> Result<(), Memory>
+        ensures { self.new.nodes ≡ self.old.nodes }
+    {
+        let entries = entries_on(size);
+        self.pool.make_room(alloc, nodes, entries)?;
+        for judge in self.judges.iter_mut() {
+            judge.make_room(entries)?;
+        }
+        Ok(())
+    }
+
     // Puts the root at its place, with kids on these cells, of which some have nodes already.
-    fn open_root(&mut self, alloc: Global, root: &Root<'_>, must: CellSet) -> Result<(), Memory>
+    fn open_root(&mut self, root: &Root<'_>, must: CellSet) -> Result<(), Memory>
         ensures { length self.new.nodes.items ≡ length self.old.nodes.items }
     {
         let Some(judge) = self.judges.first_mut() else {
             return Err(Memory);
         };
         let finding = judge.judged_root(root.board, root.colour, must)?;
-        let node = self.node_of(alloc, 0, &finding, NOWHERE, 0)?;
+        let node = self.node_of(0, &finding, NOWHERE, 0)?;
         if let Some(first) = self.nodes.first_mut() {
             *first = node;
         }
