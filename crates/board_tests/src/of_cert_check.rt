@@ -45,24 +45,38 @@ fn edge_cert(alloc: Global, report: &Report) -> Option<Cert>
     cut(alloc, report, number).ok()
 }
 
+// Black's first semi entry between the edges on the empty board of this size, cut. `None` if there
+// is none, or memory runs out.
+fn first_cert(alloc: Global, size: u32) -> Option<Cert>
+    ensures { IfSome result IsWritable }
+{
+    let board = Board::empty(Size::of(size)?);
+    let report = connect(alloc, &board, Colour::Black).ok()?;
+    edge_cert(alloc, &report)
+}
+
+// Whether this is its text.
+fn has_text(alloc: Global, size: u32, expected: &[u8]) -> Option<bool> {
+    let cert = first_cert(alloc, size)?;
+    let text = write(alloc, &cert).ok()?;
+    Some(text.as_slice() == expected)
+}
+
+// The verdict on it.
+fn first_verdict(alloc: Global, size: u32) -> Option<Verdict> {
+    let cert = first_cert(alloc, size)?;
+    check(alloc, &cert).ok()
+}
+
 // On the empty board of this size Black's first semi entry between the edges is found and cut; the
 // text of the certificate is this one, and the checker accepts it with this carrier.
 fn certify(rt: &impl Abort, alloc: Global, size: u32, expected: &[u8], carrier: CellSet) {
-    let size = Size::of(size).expect(rt, "a size");
-    let board = Board::empty(size);
-    let Ok(report) = connect(alloc, &board, Colour::Black) else {
-        panic!(rt; "there is memory");
-    };
-    let cert = edge_cert(alloc, &report).expect(rt, "an entry, and memory");
-    let Ok(text) = write(alloc, &cert) else {
-        panic!(rt; "there is memory");
-    };
-    assert_eq!(rt; text.as_slice(), expected);
-    let Ok(verdict) = check(alloc, &cert) else {
-        panic!(rt; "there is memory");
-    };
+    assert_eq!(rt; has_text(alloc, size, expected), Some(true));
     let claim = Kind::Semi;
-    assert_eq!(rt; verdict, Verdict::Yes { claim, carrier });
+    assert_eq!(rt;
+        first_verdict(alloc, size),
+        Some(Verdict::Yes { claim, carrier })
+    );
 }
 
 // `cut-one`: the carrier is {a1}.

@@ -5,6 +5,7 @@ use hex_board::Board;
 use hex_cells::{Cell, Colour, Size};
 use live_links::{Links, Until};
 use std::alloc::Global;
+use std::process::Abort;
 use std::rt::HostRuntime;
 use std::test::Fail;
 
@@ -15,11 +16,14 @@ const UNIT: u32 = 1 << 20;
 // one unit together. The current of the whole goes in at the cell and out again: twice 2^20.
 #[test]
 fn one_cell(rt: HostRuntime) -> Result<(), Fail> {
-    let alloc = rt.alloc();
+    let mut circuit = Circuit::make(rt.alloc())?;
+    check_one_cell(&rt, rt.alloc(), &mut circuit)
+}
+
+fn check_one_cell(rt: &impl Abort, alloc: Global, circuit: &mut Circuit) -> Result<(), Fail> {
     let board = Board::empty(Size::of(1).ok_or("a size")?);
-    let mut circuit = Circuit::make(alloc)?;
     for colour in [Colour::Black, Colour::White] {
-        load(alloc, &mut circuit, &board, colour)?;
+        load(alloc, circuit, &board, colour)?;
         assert_eq!(rt; circuit.total(), UNIT);
         assert_eq!(rt; circuit.part(Cell::numbered(0)), u64::from(2 * UNIT));
     }
@@ -38,10 +42,13 @@ fn load(alloc: Global, circuit: &mut Circuit, board: &Board, colour: Colour) -> 
 // much as each other.
 #[test]
 fn two_by_two(rt: HostRuntime) -> Result<(), Fail> {
-    let alloc = rt.alloc();
+    let mut circuit = Circuit::make(rt.alloc())?;
+    check_two_by_two(&rt, rt.alloc(), &mut circuit)
+}
+
+fn check_two_by_two(rt: &impl Abort, alloc: Global, circuit: &mut Circuit) -> Result<(), Fail> {
     let board = Board::empty(Size::of(2).ok_or("a size")?);
-    let mut circuit = Circuit::make(alloc)?;
-    load(alloc, &mut circuit, &board, Colour::Black)?;
+    load(alloc, circuit, &board, Colour::Black)?;
     let (left, right) = (
         circuit.part(Cell::numbered(2)),
         circuit.part(Cell::numbered(1)),
@@ -55,13 +62,16 @@ fn two_by_two(rt: HostRuntime) -> Result<(), Fail> {
 // A stone of the player's own makes him better.
 #[test]
 fn own_stone(rt: HostRuntime) -> Result<(), Fail> {
-    let alloc = rt.alloc();
+    let mut circuit = Circuit::make(rt.alloc())?;
+    check_own_stone(&rt, rt.alloc(), &mut circuit)
+}
+
+fn check_own_stone(rt: &impl Abort, alloc: Global, circuit: &mut Circuit) -> Result<(), Fail> {
     let mut board = Board::empty(Size::of(2).ok_or("a size")?);
-    let mut circuit = Circuit::make(alloc)?;
-    load(alloc, &mut circuit, &board, Colour::Black)?;
+    load(alloc, circuit, &board, Colour::Black)?;
     let empty = circuit.total();
     board.place(Colour::Black, Cell::numbered(0));
-    load(alloc, &mut circuit, &board, Colour::Black)?;
+    load(alloc, circuit, &board, Colour::Black)?;
     assert!(rt; empty < circuit.total());
     Ok(())
 }

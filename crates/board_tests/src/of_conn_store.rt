@@ -52,9 +52,14 @@ fn add_and(rt: &impl Abort, store: &mut Store, i: u32, j: u32) -> Put {
 #[test]
 fn a_second_adjacent_entry_is_dominated(rt: HostRuntime) {
     let mut store = store_of(&rt, rt.alloc(), 1, 0);
+    check_one_cell(&rt, &mut store);
+}
+
+// An empty store of a board of one cell takes the entry of the cell and an edge once.
+fn check_one_cell(rt: &impl Abort, store: &mut Store) {
     assert_eq!(rt; store.elements().count(), 3);
-    assert_eq!(rt; add_adjacent(&rt, &mut store, 0, 2), Put::Added(0));
-    assert_eq!(rt; add_adjacent(&rt, &mut store, 0, 2), Put::Dominated);
+    assert_eq!(rt; add_adjacent(rt, store, 0, 2), Put::Added(0));
+    assert_eq!(rt; add_adjacent(rt, store, 0, 2), Put::Dominated);
     assert_eq!(rt; store.entries().len(), 1);
     assert!(rt; store.by_adjacent(0, 1).is_none());
     assert_eq!(rt; store.board().size().get(), 1);
@@ -90,9 +95,14 @@ fn add_ways(rt: &impl Abort, store: &mut Store, columns: u8) {
 #[test]
 fn a_seventh_semi_entry_finds_the_pair_full(rt: HostRuntime) {
     let mut store = store_of(&rt, rt.alloc(), 11, 7);
+    check_seven_ways(&rt, &mut store);
+}
+
+// Of seven ways between the first edge and the group the pair holds the first six.
+fn check_seven_ways(rt: &impl Abort, store: &mut Store) {
     assert_eq!(rt; store.elements().count(), 117);
-    add_columns(&rt, &mut store, 7);
-    add_ways(&rt, &mut store, 7);
+    add_columns(rt, store, 7);
+    add_ways(rt, store, 7);
     let held = Held {
         count: 6,
         at: [14, 15, 16, 17, 18, 19],
@@ -130,12 +140,17 @@ fn add_or_three(rt: &impl Abort, store: &mut Store, i: u32, j: u32, k: u32) -> (
 #[test]
 fn two_or_three_ways_make_a_full_entry(rt: HostRuntime) {
     let mut store = store_of(&rt, rt.alloc(), 11, 7);
-    add_columns(&rt, &mut store, 3);
-    add_ways(&rt, &mut store, 3);
+    check_ors(&rt, &mut store);
+}
+
+// Three ways between the first edge and the group, entries 6 to 8, join them; so do two of them.
+fn check_ors(rt: &impl Abort, store: &mut Store) {
+    add_columns(rt, store, 3);
+    add_ways(rt, store, 3);
     assert_eq!(rt; store.entries().len(), 9);
-    assert_eq!(rt; add_or_three(&rt, &mut store, 6, 7, 8), (Put::Added(9), 3));
-    assert_eq!(rt; add_or_two(&rt, &mut store, 6, 7), (Put::Added(10), 2));
+    assert_eq!(rt; add_or_three(rt, store, 6, 7, 8), (Put::Added(9), 3));
+    assert_eq!(rt; add_or_two(rt, store, 6, 7), (Put::Added(10), 2));
     assert_eq!(rt; store.entries().len(), 11);
     assert!(rt; store.by_or_two(6, 6).is_none());
-    assert_eq!(rt; add_or_two(&rt, &mut store, 7, 6), (Put::Dominated, 2));
+    assert_eq!(rt; add_or_two(rt, store, 7, 6), (Put::Dominated, 2));
 }
