@@ -10,7 +10,7 @@ const SETTINGS = {...JSON.parse(document.getElementById('given').textContent), w
 // The file that stands for a record (worker.js).
 const RECORD = 'record.sgf';
 // A module's memory never shrinks: past so many bytes the next game gets a new run.
-const GROWN = 150_000_000;
+const GROWN = 300_000_000;
 
 /** The text of an answer of HTP, behind `=` and a space; Refused with it if it is a failure. */
 function answered(answer) {
