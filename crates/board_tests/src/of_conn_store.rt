@@ -61,6 +61,7 @@ fn check_one_cell(rt: &impl Abort, store: &mut Store) {
     assert_eq!(rt; add_adjacent(rt, store, 0, 2), Put::Added(0));
     assert_eq!(rt; add_adjacent(rt, store, 0, 2), Put::Dominated);
     assert_eq!(rt; store.entries().len(), 1);
+    assert!(rt; 1 < store.elements().count());
     assert!(rt; store.by_adjacent(0, 1).is_none());
     assert_eq!(rt; store.board().size().get(), 1);
     assert_eq!(rt; store.colour(), Colour::Black);
