@@ -68,10 +68,10 @@ def tests(options):
     suites = [loader.loadTestsFromModule(module) for module in plain]
     suites.append(loader.loadTestsFromTestCase(of_report.Reports))
     if why is None:
-        from tests import of_choices, of_games, of_hands, of_puzzles, of_records, of_thoughts, of_windows, pages
+        from tests import of_choices, of_games, of_hands, of_puzzles, of_records, of_sittings, of_thoughts, of_windows, pages
 
         pages.Pages.shots = options.shots
-        modules = (of_games, of_hands, of_choices, of_thoughts, of_puzzles, of_records, of_windows)
+        modules = (of_games, of_hands, of_choices, of_thoughts, of_puzzles, of_records, of_sittings, of_windows)
         suites += [loader.loadTestsFromModule(module) for module in modules]
         suites.append(loader.loadTestsFromTestCase(of_report.in_browser(options.shots)))
     return unittest.TestSuite(chosen(suites, options.names)), why

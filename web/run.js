@@ -46,7 +46,7 @@ class Run {
   constructor(module, words) {
     this.worker = new Worker(workerOfPage());
     this.decoder = new TextDecoder();
-    this.text = '';
+    this.text = this.errors = '';
     this.memory = 0;
     this.asked = [];
     this.ended = new Promise((done, lost) => { Object.assign(this, {done, lost}); });
@@ -62,9 +62,13 @@ class Run {
       this.text += this.decoder.decode(bytes, {stream: true});
       this.answer();
     }
+    if (fd === 2) this.errors += new TextDecoder().decode(bytes);
     if (status !== undefined) {
-      this.done(this.text);
-      this.stop(`hexd ended with status ${status}`);
+      const why = `hexd ended with status ${status}${this.errors && ` (${this.errors.trim()})`}`;
+      // With another one it has come to no end, and what it wrote is no answer (docs/use/MANUAL.md).
+      if (status <= 1) this.done(this.text);
+      else this.lost(Object.assign(new Error(`${why}: that is no answer.`), {isTold: true}));
+      this.stop(why);
     }
     if (fault !== undefined) this.stop(fault);
   }

@@ -483,11 +483,11 @@ class Host:
 
 def of_board(file, browser, is_long):
     """The tests of the board's page with this page in the place of the server's: some, or all that need no server."""
-    from tests import of_choices, of_games, of_hands, of_puzzles, of_records, of_thoughts, of_windows, pages
+    from tests import of_choices, of_games, of_hands, of_puzzles, of_records, of_sittings, of_thoughts, of_windows, pages
 
     pages.shared.update(server=NoServer(file), browser=browser)
     loader = unittest.TestLoader()
-    all_of_board = (of_choices, of_games, of_hands, of_puzzles, of_records, of_thoughts, of_windows)
+    all_of_board = (of_choices, of_games, of_hands, of_puzzles, of_records, of_sittings, of_thoughts, of_windows)
     modules = [loader.loadTestsFromModule(it) for it in all_of_board]
     found = [test for suites in modules for suite in suites for test in suite]
     return [test for test in found if is_chosen(test, OF_SERVER if is_long else OF_BOARD) != is_long]

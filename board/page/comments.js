@@ -19,7 +19,8 @@ function openComment({game}) {
 /** The box closes once the game stands elsewhere. */
 function drawComment({at}) {
   const box = byId('comment');
-  if (!box.hidden && box.position !== at) closeComment();
+  // Who writes goes on, also while hexd moves.
+  if (!box.hidden && box.position !== at && document.activeElement !== box) closeComment();
 }
 
 function closeComment() { byId('comment').hidden = true; }
@@ -29,10 +30,15 @@ function wireComments(play) {
   // A press on the button would first leave the box, which closes it.
   byId('write').addEventListener('mousedown', event => event.preventDefault());
   byId('write').addEventListener('click', () => (box.hidden ? openComment(play) : closeComment()));
-  box.addEventListener('change', () => {
-    const {position, value} = box;
-    play.act(() => setComment(position, value.trim()));
-  });
+  // Each letter is kept: hexd may be at work for long, or be lost, and the page may go. 'change' comes where a script writes.
+  for (const kind of ['input', 'change']) {
+    box.addEventListener(kind, () => {
+      setComment(box.position, box.value.trim());
+      play.keeping.keep(box.position.tree, false);
+    });
+  }
+  // Not all is drawn: the press that leaves the box may be on a move, whose button has to be there for the click.
+  box.addEventListener('change', () => byId('record').replaceChildren(...recordElements(play.game)));
   box.addEventListener('blur', closeComment);
   box.addEventListener('keydown', ({key}) => { if (key === 'Escape') box.blur(); });
 }

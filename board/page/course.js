@@ -16,8 +16,12 @@ function drawShares(game, proofs, onGoTo) {
 function drawCourse(game, proofs, {unfolded, judgements, onGoTo, onFold}) {
   drawShares(game, proofs, onGoTo);
   const drawing = new TreeDrawing(game.tree, {unfolded, judgements, onGoTo, onFold}), [first] = game.tree.root.children;
-  byId('moves').replaceChildren(...first ? drawing.items(first) : []);
-  showCurrent(byId('moves'));
+  const list = byId('moves'), {activeElement: held} = document, isHeld = list.contains(held);
+  list.replaceChildren(...first ? drawing.items(first) : []);
+  showCurrent(list);
+  // The buttons are other ones: who goes over them by keys stays where he was.
+  const same = ({position, className}) => position === held.position && (className === 'fold') === (held.className === 'fold');
+  if (isHeld) [...list.querySelectorAll('button')].find(same)?.focus({preventScroll: true});
   byId('record').replaceChildren(...recordElements(game));
 }
 
@@ -59,7 +63,7 @@ class TreeDrawing {
     const isFolded = this.isFolded(first), words = `${isFolded ? 'Show' : 'Hide'} ${counted(after, 'move')} more`;
     const given = {type: 'button', class: 'fold', 'aria-expanded': !isFolded, 'aria-label': words, title: words};
     const button = htmlElement('button', given, isFolded ? `+${after}` : '\u2212');
-    button.onclick = () => this.onFold(first);
+    Object.assign(button, {position: first, onclick: () => this.onFold(first)});
     return htmlElement('li', {}, button);
   }
 
@@ -76,7 +80,7 @@ class TreeDrawing {
       button.classList.add('commented');
       button.title = position.comment;
     }
-    button.onclick = () => this.onGoTo(position);
+    Object.assign(button, {position, onclick: () => this.onGoTo(position)});
     return button;
   }
 

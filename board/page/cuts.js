@@ -22,6 +22,7 @@ function putBack(tree) {
 
 function joinBranches(kept, joined) {
   for (const name of ['thought', 'solved', 'end']) kept[name] ??= joined[name];
+  mergeProperties(kept, joined.properties, new Set());
   for (const child of joined.children) {
     const found = kept.children.find(({step}) => isSameStep(step, child.step));
     if (found) {

@@ -4,7 +4,8 @@
 /** Wires the section 'Keep and open' of the page. */
 function wireFiles(play) {
   const {game} = play, on = (id, use) => byId(id).addEventListener('click', use);
-  on('save', () => play.act(() => play.save()));
+  // Without a session too: just then one wants to keep the game.
+  on('save', () => (play.lost ? play.save() : play.act(() => play.save())));
   byId('open').addEventListener('change', async event => {
     const [file] = event.target.files;
     if (file) await play.open(file);

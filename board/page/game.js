@@ -137,8 +137,8 @@ class Game {
 
   async moved(colour, move) {
     const {tree, at} = this, known = at.children.length, position = tree.after(at, {colour, move});
-    // A record's result is that of the moves it had.
-    if (at.children.length > known) delete tree.root.properties.RE;
+    // A record's result is that of the moves it had: one more of its main line ends it, a side line doesn't.
+    if (at.children.length > known && position === endOf(tree.root)) delete tree.root.properties.RE;
     this.held = position;
     await this.goTo(position);
   }

@@ -3,7 +3,7 @@
 // place of the line above the board, so that it lies over no button and no cell. It goes once it could be read.
 
 // How long a message stays: so long, and for each of its letters.
-const LEAST_STAY = 4_000, STAY_OF_LETTER = 50, MOST_STAY = 12_000;
+const LEAST_STAY = 4_000, STAY_OF_LETTER = 50, MOST_STAY = 90_000;
 const NARROW_WINDOW = matchMedia(
   '(max-width: 60rem) and (orientation: portrait), (max-height: 34rem) and (orientation: landscape)');
 

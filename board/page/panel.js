@@ -26,7 +26,9 @@ class Panel {
       even: state.strengths?.even(game.size), guesses: state.strengths?.guesses, replies: this.replies, progress: state.progress,
       nodes: state.live?.nodes, judgement: judgements.get(game.at),
     };
+    const held = document.activeElement?.closest('#words [data-cell]')?.dataset.cell;
     byId('words').replaceChildren(...thoughtElements(game, this.proof, this.map, known));
+    if (held) byId('words').querySelector(`[data-cell=${held}]`)?.focus({preventScroll: true});
     this.drawBoard();
     const onFold = position => {
       if (!unfolded.delete(position)) unfolded.add(position);

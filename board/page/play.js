@@ -2,11 +2,12 @@
 // The page at work: one thing after another, whose turn is hexd's, and what happens where a session or the server is lost.
 
 const AT_WORK = 'hexd is at work: Stop ends it.';
+const AFTER_WORK = 'hexd is at work: this comes once it is done. Stop ends it.';
 
 class Play {
   constructor() {
     Object.assign(this, {busy: false, thinking: null, progress: null, running: false, waiting: []});
-    Object.assign(this, {opening: false, stopping: false});
+    Object.assign(this, {opening: false, stopping: false, ended: -Infinity});
     Object.assign(this, {lost: null, full: false, strengths: null, entered: false, isNew: false});
     this.view = new BoardView(byId('board'), {
       onPick: vertex => this.pick(vertex),
@@ -37,7 +38,10 @@ class Play {
   async act(use, goOn = false) {
     if (this.lost) return;
     this.waiting.push({use, goOn});
-    if (this.busy) return;
+    if (this.busy) {
+      if (this.thinking && !this.stopping) this.message.say(AFTER_WORK);
+      return;
+    }
     this.busy = true;
     while (this.waiting.length && !this.lost) await this.doOne(this.waiting.shift());
     Object.assign(this, {busy: false, running: false, waiting: []});
@@ -57,7 +61,7 @@ class Play {
     }
     await this.keeping.store.keep(this.game.tree);
     this.stopClock();
-    this.message.take(AT_WORK);
+    for (const text of [AT_WORK, AFTER_WORK]) this.message.take(text);
     if (this.stopping && !this.lost) await this.renew();
   }
 
@@ -95,17 +99,21 @@ class Play {
 
   stopClock() {
     clearInterval(this.clock);
+    if (this.thinking) this.ended = performance.now();
     Object.assign(this, {thinking: null, progress: null});
     byId('seconds').textContent = '';
   }
 
   async letHexdMove() {
-    const {game} = this, {at} = game, proof = provedAlong(game.tree.line)[at.number];
+    const {game} = this, {at, mover, tree} = game, proof = provedAlong(tree.line)[at.number];
+    // For the record: who plays may be chosen anew.
+    if (this.players[mover] === 'hexd') tree.hexd = {...tree.hexd, [mover]: strengthName()};
     const known = knownMove(game, proof, this.strengths.even(game.size));
     if (known) await game.playKnown(known);
     else await this.search();
     speakMove(game.at);
     await this.settle();
+    this.ended = performance.now();
     this.keeping.store.keep(this.game.tree);
     // A click that came meanwhile has its turn between two moves of hexd's against itself.
     if (this.waiting.length && this.players.b === this.players.w) this.running = false;
@@ -179,11 +187,14 @@ class Play {
     }
   }
 
+  /** Whether nothing more can be asked of hexd now, which is said. */
+  get isAtWork() {
+    if (this.thinking) this.message.say(AT_WORK);
+    return Boolean(this.thinking);
+  }
+
   pick(vertex) {
-    if (this.thinking) {
-      this.message.say(AT_WORK);
-      return;
-    }
+    if (this.isAtWork) return;
     this.act(async () => {
       if (this.isHexdsTurn) throw new Refused('it is hexd\'s turn: \'hexd moves\' lets it move');
       await this.game.play(vertex);
@@ -205,7 +216,7 @@ class Play {
   async take(tree) {
     const {tree: old} = this.game;
     await this.game.take(tree);
-    this.isNew = !old.isEmpty;
+    this.isNew = !old.isEmpty || old.cuts.length > 0 || old.root.comment !== '';
     // An empty game leaves its place to another.
     if (!this.isNew) tree.id = old.id;
   }
@@ -218,8 +229,9 @@ class Play {
   /** Saves the game, once hexd has said how its line ends. */
   async save() {
     const {tree} = this.game, {players} = this;
-    await this.game.learn(tree.line.at(-1)).catch(fault => { if (!(fault instanceof Refused)) throw fault; });
-    const nameOf = colour => (players[colour] === 'hexd' ? `hexd (${strengthName()})` : HUMAN);
+    if (!this.lost) await this.game.learn(tree.line.at(-1)).catch(fault => { if (!(fault instanceof Refused)) throw fault; });
+    const strengths = {...Object.fromEntries([...'bw'].filter(colour => players[colour] === 'hexd').map(colour => [colour, strengthName()])), ...tree.hexd};
+    const nameOf = colour => (strengths[colour] ? `hexd (${strengths[colour]})` : HUMAN);
     const record = () => savedRecord(tree, {b: nameOf('b'), w: nameOf('w')});
     saveFile(savedName(), new Blob([`${byId('save-remarks').checked ? withRemarks(tree, record) : record()}\n`]));
   }
@@ -241,13 +253,19 @@ class Play {
   openText(text) {
     if (!text.trim()) return;
     if (text.trim().startsWith('(')) return this.open(new Blob([text]));
+    let named;
+    try {
+      named = gameOfText(text, this.game.size);
+    } catch (fault) {
+      // What hexd does isn't ended by a slip of the pen.
+      return this.fail(fault);
+    }
     this.stop();
-    return this.act(() => this.takeText(text));
+    return this.act(() => this.takeNamed(named));
   }
 
   /** The game that a text names, and what of it is changed. */
-  async takeText(text) {
-    const named = gameOfText(text, this.game.size);
+  async takeNamed(named) {
     await this.take(treeOfMoves(named));
     this.message.say(named.notes.join(' '));
   }

@@ -14,7 +14,9 @@ const given = asked => new Promise((done, lost) => {
   asked.onerror = () => lost(asked.error);
 });
 
-const movesTo = position => movesText(position.path.slice(1).map(({step}) => step)).join(' ');
+/** A position's name among those of its game: with the board, for an empty game leaves its place, and its id, to another one's. */
+const movesTo = ({tree: {size, start, root}, path, number}) =>
+  `${root.mover} ${linkOf({size, start, steps: path.slice(1).map(({step}) => step), position: number})}`;
 
 const saidOf = position => Object.fromEntries(SAID.map(name => [name, position[name] ?? null]));
 

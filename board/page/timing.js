@@ -5,7 +5,8 @@
 const OFTEN = 100;
 // From here on a clock is low.
 const LOW = 10_000;
-const CLOCK_KEPT = 'hexd-clock';
+// The clock of each game, behind whose id.
+const CLOCK_KEPT = 'hexd-clock-';
 // How hexd shares its time out: among this share of the empty cells, and no fewer moves than these.
 const SHARE_OF_CELLS = 0.3, FEWEST_MOVES = 8, SPARE = 0.1;
 
@@ -70,7 +71,7 @@ class GameClock {
   keep() {
     const {id, times, left, running, since} = this;
     try {
-      sessionStorage.setItem(CLOCK_KEPT, JSON.stringify({id, times, left, running, since}));
+      sessionStorage.setItem(CLOCK_KEPT + id, JSON.stringify({id, times, left, running, since}));
     } catch {
       // Without a store it lasts as long as the page.
     }
@@ -79,7 +80,7 @@ class GameClock {
   /** Takes up the clock of a game that was reloaded, at its last position. */
   restore({tree, at}) {
     try {
-      const kept = JSON.parse(sessionStorage.getItem(CLOCK_KEPT));
+      const kept = JSON.parse(sessionStorage.getItem(CLOCK_KEPT + tree.id));
       if (kept?.id === tree.id && kept.times) Object.assign(this, kept, {position: at});
     } catch {
       // There is none.
@@ -119,8 +120,13 @@ class Timing {
     const {play: {game}, clock} = this, {tree, at} = game;
     if (at.number > this.number) soundOfMove();
     this.number = at.number;
+    // That of a game that one leaves stands still until one is there again.
+    if (clock.isOn && clock.id !== tree.id) {
+      clock.run(null, false);
+      clock.keep();
+      clock.off();
+    }
     if (tree.isEmpty) this.begin();
-    else if (clock.id !== tree.id) clock.off();
     if (!clock.isOn && !tree.isEmpty) clock.restore(game);
     if (clock.isOn) clock.follow(game);
     if (clock.id) clock.keep();
@@ -149,8 +155,10 @@ class Timing {
   /** The game is lost by time; what hexd does ends. Who takes the end back goes on without a clock. */
   end(colour) {
     const {clock, play} = this, {position} = clock;
-    clock.off();
+    // Kept without times it is none.
+    clock.times = null;
     clock.keep();
+    clock.off();
     play.stop();
     play.act(() => { position.end ??= {colour, move: 'forfeit', properties: {[`${colour.toUpperCase()}L`]: ['0']}}; });
   }

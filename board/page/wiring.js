@@ -4,6 +4,8 @@
 // The keys that are buttons of the bar, and those with Ctrl.
 const KEYS = {ArrowLeft: 'back', ArrowRight: 'forth', Home: 'first', End: 'end', u: 'undo', a: 'live', m: 'mistake'};
 const CONTROL_KEYS = {z: 'undo'};
+// So long after a move of hexd's a click on 'hexd moves' is one on 'Stop' that came late, or the second of a double one, in milliseconds.
+const LATE = 300;
 
 function wire(play) {
   wireBar(play);
@@ -18,6 +20,8 @@ function wire(play) {
   addEventListener('keydown', press);
   addEventListener('popstate', ({state}) => play.goBack(state));
   addEventListener('pagehide', () => play.game.session?.close());
+  // A browser may bring the page again as it was, without its hexd.
+  addEventListener('pageshow', ({persisted}) => { if (persisted) play.again(false); });
 }
 
 /** The bar below the board. */
@@ -30,9 +34,13 @@ function wireBar(play) {
   on('forth', go(() => game.at.next));
   on('end', go(() => game.tree.line.at(-1)));
   on('undo', act(() => play.undo()));
-  on('hint', act(() => play.hint()));
-  on('go', act(() => play.letHexdMove(), true));
-  on('stop', () => play.stop());
+  // One search at a time: what is asked in the midst of one would begin behind it, also after Stop.
+  const ask = (use, goOn) => () => { if (!play.isAtWork) play.act(use, goOn); };
+  on('hint', ask(() => play.hint()));
+  // One stands where the other stood: the second click of a double one is none, nor is one that comes as a search ends.
+  const letMove = ask(() => play.letHexdMove(), true);
+  on('go', ({detail, timeStamp}) => { if (!detail || timeStamp - play.ended > LATE) letMove(); });
+  on('stop', ({detail}) => { if (detail < 2) play.stop(); });
   on('swap', act(() => game.play(SWAP), true));
   on('new', () => play.begin(game.size));
   on('again', () => play.again(false));
@@ -44,9 +52,9 @@ function wireChoices(play) {
   const sizes = [...Array(LETTERS.length).keys()].map(at => htmlElement('option', {value: at + 1}, `${at + 1}`));
   byId('size').append(...sizes);
   byId('size').addEventListener('change', ({target: {value}}) => play.begin(Number(value)));
-  byId('analyse').addEventListener('click', () => play.act(() => play.analyse()));
+  byId('analyse').addEventListener('click', () => { if (!play.isAtWork) play.act(() => play.analyse()); });
   byId('mistake').addEventListener('click', () => play.act(() => play.goToMistake()));
-  byId('prove').addEventListener('click', () => play.act(() => play.prove()));
+  byId('prove').addEventListener('click', () => { if (!play.isAtWork) play.act(() => play.prove()); });
 }
 
 /** What lasts over a reload: players, strength, and what is shown. */
@@ -68,7 +76,7 @@ function wireSwitches(play) {
 function press(event) {
   const {key, ctrlKey, metaKey, altKey, shiftKey, target} = event;
   const id = (ctrlKey || metaKey ? CONTROL_KEYS : KEYS)[key];
-  if (!id || altKey || shiftKey || target.closest('input[type=text], select, textarea')) return;
+  if (!id || altKey || shiftKey || target.closest('input:is([type=text], [type=number]), select, textarea')) return;
   if (key.startsWith('Arrow') && target.closest('#board')) return;
   event.preventDefault();
   byId(id).click();

@@ -142,7 +142,7 @@ class Windows(Pages):
                     browser.click(css)
                     browser.run("play.message.say(arguments[0])", say)
                     self.assertTrue(browser.run(IS_IN_LINE))
-                    self.assertLessEqual(browser.run("return waited.wait"), 12_000)
+                    self.assertLessEqual(browser.run("return waited.wait"), 90_000)
                     self.shot(f"message-{size[0]}")
                     browser.run("waited.use()")
                     self.assertFalse(browser.find("#said").is_displayed())
