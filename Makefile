@@ -75,7 +75,7 @@ install_text = $(unpathed) $1 | install -D -m 644 /dev/stdin "$(DESTDIR)$2"
 install_script = $(unpathed) $1 | install -D -m 755 /dev/stdin "$(DESTDIR)$2"
 install_wrapper = sed "s,^share=.*,share=\$$bin/$(call from,$2,$(share))," $1 | install -D -m 755 /dev/stdin "$(DESTDIR)$2"
 install_entry = sed 's,^Exec=,&$(bindir)/,' $1 | install -D -m 644 /dev/stdin "$(DESTDIR)$2"
-install_link = mkdir -p "$(DESTDIR)$(dir $2)" && ln -sfn "$(call from,$2,$1)" "$(DESTDIR)$2"
+install_link = install -d -m 755 "$(DESTDIR)$(dir $2)" && ln -sfn "$(call from,$2,$1)" "$(DESTDIR)$2"
 
 # The two commands of a file; the empty line at the end of each ends the command.
 part = $(word $1,$(subst :, ,$2))

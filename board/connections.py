@@ -10,6 +10,8 @@ import time
 
 # At most so many, and no more than this part of the files that the process may open.
 MOST, SHARE_OF_FILES = 128, 4
+# The most bytes of a request's head: Python takes a hundred lines of 64 KiB.
+MOST_HEAD_BYTES = 65_536
 
 
 def most():
@@ -25,19 +27,25 @@ class Line(io.RawIOBase):
         super().__init__()
         self.connection, self.is_ended = connection, False
         self.until = time.monotonic()
+        # How many bytes may come; None if what reads them counts them.
+        self.room = None
 
     def readable(self):
         return True
 
-    def within(self, seconds):
-        """From now on a part of a request has so long to come, or to be taken."""
-        self.until = time.monotonic() + seconds
+    def within(self, seconds, room=None):
+        """From now on a part of a request has so long to come, or to be taken, and at most so many bytes."""
+        self.until, self.room = time.monotonic() + seconds, room
         self.connection.settimeout(seconds)
 
     def readinto(self, room):
         self.connection.settimeout(max(0.001, self.until - time.monotonic()))
         got = self.connection.recv_into(room)
         self.is_ended = not got
+        if self.room is not None:
+            self.room -= got
+            if self.room < 0:
+                raise ConnectionAbortedError("the head of a request is too long")
         return got
 
 

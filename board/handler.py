@@ -92,7 +92,7 @@ class Handler(BaseHTTPRequestHandler):
             self.rfile.peek(1)
         except TimeoutError:
             return
-        self.line.within(HEAD_SECONDS)
+        self.line.within(HEAD_SECONDS, connections.MOST_HEAD_BYTES)
         super().handle_one_request()
 
     def do_GET(self):
@@ -284,7 +284,9 @@ class Server(ThreadingHTTPServer):
             names.append("localhost")
         elif self.server_name in EVERY:
             names += ["localhost", socket.gethostname()]
-        return [f"[{name}]:{self.server_port}" if ":" in name else f"{name}:{self.server_port}" for name in names]
+        # A browser sends a name in small letters, and no port if that is the one of HTTP.
+        names = [f"[{name}]" if ":" in name else name.lower() for name in names]
+        return [f"{name}:{self.server_port}" for name in names] + (names if self.server_port == 80 else [])
 
     def address(self):
         name = socket.gethostname() if self.server_name in EVERY else self.server_name

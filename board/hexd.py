@@ -27,7 +27,14 @@ import records  # noqa: F401  A caller's hexd.records.
 # The program: HEXD in the environment, as bin/hexd-board and bin/hexd-report set it, else bin/hexd of the tree, else that of the
 # path, if this was installed by pip.
 OF_TREE = Path(__file__).resolve().parent.parent / "bin" / "hexd"
-PROGRAM = Path(os.environ.get("HEXD") or (OF_TREE if OF_TREE.exists() else shutil.which("hexd") or OF_TREE))
+
+
+def program_of(word: str) -> Path:
+    """The program that a word names, as a shell finds it: without a slash by the path. A Path alone would lose a `./`."""
+    return Path(word if "/" in word else shutil.which(word) or word).absolute()
+
+
+PROGRAM = program_of(os.environ.get("HEXD") or str(OF_TREE if OF_TREE.exists() else shutil.which("hexd") or OF_TREE))
 # How long a process may take to end once its input has ended or it was killed, in seconds.
 GRACE = 30
 # The bytes that hexd drops from a line.
@@ -167,9 +174,11 @@ class Engine:
                 got = b""
             if not got.endswith(b"\n"):
                 raise self._ended()
-            if got == b"\n":
+            # Other programs of GTP may send carriage returns, which say nothing, and bytes that are no UTF-8.
+            text = got[:-1].replace(b"\r", b"").decode(errors="replace")
+            if not text:
                 return Answer.of("\n".join(lines))
-            lines.append(got[:-1].decode())
+            lines.append(text)
 
     def _ended(self):
         try:

@@ -11,6 +11,7 @@ With --json the output is one object in place of the page.
 
 import html
 import re
+import signal
 import sys
 import tempfile
 from pathlib import Path
@@ -139,7 +140,7 @@ def wanted(words):
     parser = settings.Parser(prog="hexd-report", description="Writes a report of a game as HTML on standard output.")
     settings.add_options(parser)
     parser.add_argument("--json", action="store_true", help="write what the page shows as one line of JSON")
-    parser.add_argument("--program", type=Path, default=hexd.PROGRAM, help="the program in place of the built one")
+    parser.add_argument("--program", type=hexd.program_of, default=hexd.PROGRAM, help="the program in place of the built one")
     parser.add_argument("record", metavar="GAME.sgf", help="the record of a game, or a certificate, packed by xz or not; -: standard input")
     return parser.parse_args(words)
 
@@ -194,4 +195,11 @@ def main():
 
 
 if __name__ == "__main__":
-    sys.exit(main())
+    # Ctrl-C comes to hexd too; with TERM and HUP hexd ends, and the folder goes, as well.
+    for number in (signal.SIGTERM, signal.SIGHUP):
+        if signal.getsignal(number) != signal.SIG_IGN:
+            signal.signal(number, lambda number, _: sys.exit(128 + number))
+    try:
+        sys.exit(main())
+    except KeyboardInterrupt:
+        sys.exit(128 + signal.SIGINT)

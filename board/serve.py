@@ -54,7 +54,7 @@ def wanted(words):
     port = f"the port (0: any); {PORT} or the next free one by default"
     parser.add_argument("--port", type=settings.number(0, 65_535), help=port)
     parser.add_argument("--listen", metavar="ADDRESS", default=HERE, help=f"whose port; {HERE}, this machine, by default")
-    parser.add_argument("--program", type=Path, default=hexd.PROGRAM, help="the program in place of the built one")
+    parser.add_argument("--program", type=hexd.program_of, default=hexd.PROGRAM, help="the program in place of the built one")
     options = parser.parse_args(words[:place])
     given, options.others = split(parser, words[place + 1 :], settings.given_of(options))
     options.given = settings.Given.of(given)

@@ -37,6 +37,8 @@ class Session:
     folder: Path
     used: float = field(default_factory=time.monotonic)
     solvers: list = field(default_factory=list)
+    # How many requests are at work in it: such a session is not idle, however long they take.
+    working: int = 0
 
     def kill(self):
         for process in (*self.solvers, self.engine):
@@ -114,9 +116,8 @@ class Sessions:
     def solve(self, name, record, budget, client=None):
         """What `hexd solve` says of the position of a record, in a process that ends with the session, and with its client, a
         socket."""
-        session = self._find(name)
         try:
-            with self._solver(session, budget) as solver:
+            with self._used(name) as session, self._solver(session, budget) as solver:
                 if client:
                     solver.end_with(client)
                 # A session that was ended meanwhile has ended those alone that it had.
@@ -129,8 +130,6 @@ class Sessions:
             raise Refusal(500, f"this position is not solved: {ended}. {troubles.KEPT} Try again.") from None
         except OSError as fault:
             raise self._not_started(fault) from None
-        finally:
-            session.used = time.monotonic()
 
     @contextlib.contextmanager
     def _solver(self, session, budget):
@@ -154,7 +153,8 @@ class Sessions:
     def make_room(self):
         """Ends the session that was not used for the longest time, where there are as many as may be."""
         with self.turn:
-            oldest = min(self.open, key=lambda name: self.open[name].used) if len(self.open) >= MOST_SESSIONS else None
+            order = lambda name: (self.open[name].working > 0, self.open[name].used)  # noqa: E731
+            oldest = min(self.open, key=order) if len(self.open) >= MOST_SESSIONS else None
         return "ended" if oldest and self.end(oldest, "another page needed its place") else "there is room"
 
     def end(self, name, why=None):
@@ -174,7 +174,7 @@ class Sessions:
         """Ends each session that was not used for an hour."""
         past = time.monotonic() - IDLE_SECONDS
         with self.turn:
-            idle = [name for name, session in self.open.items() if session.used < past]
+            idle = [name for name, session in self.open.items() if not session.working and session.used < past]
         for name in idle:
             self.end(name, "the session was not used for an hour")
 
@@ -191,10 +191,23 @@ class Sessions:
             self.open[name].used = time.monotonic()
             return self.open[name]
 
-    def _with(self, name, use):
+    @contextlib.contextmanager
+    def _used(self, name):
+        """A session, which is at work meanwhile."""
         session = self._find(name)
+        with self.turn:
+            session.working += 1
         try:
-            return use(session.engine)
+            yield session
+        finally:
+            with self.turn:
+                session.working -= 1
+                session.used = time.monotonic()
+
+    def _with(self, name, use):
+        try:
+            with self._used(name) as session:
+                return use(session.engine)
         except EngineEnded as ended:
             self.end(name, str(ended))
             raise Refusal(410, self.reasons.get(name, "the session was ended")) from None
@@ -204,5 +217,3 @@ class Sessions:
             raise Refusal(410, self.reasons.get(name, "the session was ended")) from None
         except OSError as fault:
             raise Refusal(500, troubles.told(f"hexd can't be given the game by a file of {session.folder}", fault)) from None
-        finally:
-            session.used = time.monotonic()

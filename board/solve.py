@@ -101,7 +101,7 @@ def wanted(words):
     text = "whether it looks for connections, which are in its certificates; on by default"
     parser.add_argument("--hsearch", metavar="WORD", choices=["on", "off"], default="on", help=text)
     parser.add_argument("--json", action="store_true", help="write what is known as one line of JSON")
-    parser.add_argument("--program", metavar="FILE", type=Path, default=hexd.PROGRAM, help="the program hexd")
+    parser.add_argument("--program", metavar="FILE", type=hexd.program_of, default=hexd.PROGRAM, help="the program hexd")
     parser.add_argument("record", metavar="GAME.sgf", nargs="?", default="-", help="the record; -: standard input")
     return parser.parse_args(words)
 
@@ -148,7 +148,9 @@ if __name__ == "__main__":
     # Also if a shell has started it in the background; and hexd ends with it.
     signal.signal(signal.SIGINT, signal.default_int_handler)
     for number in (signal.SIGTERM, signal.SIGHUP):
-        signal.signal(number, lambda number, _: sys.exit(128 + number))
+        # nohup has it ignored, for who starts hours of work and leaves.
+        if signal.getsignal(number) != signal.SIG_IGN:
+            signal.signal(number, lambda number, _: sys.exit(128 + number))
     try:
         sys.exit(main())
     except KeyboardInterrupt:

@@ -213,9 +213,14 @@ class Match:
         file = self.folder / "match.json"
         names = ("size", "swap", "seconds", "a", "b")
         said = {**{name: getattr(self.options, name) for name in names}, "openings": self.openings}
-        if file.exists() and json.loads(file.read_text()) != said:
+        # An empty one is of a match that was ended while it was written.
+        known = file.read_text() if file.exists() else ""
+        if known and json.loads(known) != said:
             raise Stopped(f"{self.folder} has another match; --folder names one for this")
-        file.write_text(json.dumps(said, indent=1) + "\n")
+        if not known:
+            part = file.with_suffix(".part")
+            part.write_text(json.dumps(said, indent=1) + "\n")
+            part.replace(file)
 
     def games(self):
         """The number of each game, with its opening, and whether a is Black."""
@@ -275,7 +280,7 @@ def main():
         match.play()
     except KeyboardInterrupt:
         status = INTERRUPTED
-    except (Stopped, OSError, EngineEnded, records.Refused) as why:
+    except (Stopped, OSError, EngineEnded, records.Refused, ValueError) as why:
         print(f"match.py: {why}", file=sys.stderr)
         status = 1
     if match:

@@ -2,6 +2,7 @@
 as many nodes each time, and the game's hexd stays as it is. gtp/filter.py writes its lines until another line comes."""
 
 import os
+import re
 import time
 from dataclasses import dataclass, replace
 
@@ -96,9 +97,11 @@ class Wanted:
         if len(args) % 2:
             raise Refused(b"syntax error")
         for key, value in zip(args[::2], args[1::2]):
-            if key in values and not (value.isdigit() and len(value) <= 9) or key not in values and key not in IGNORED:
+            if key not in values and key not in IGNORED:
                 raise Refused(b"syntax error")
             values[key] = value
+        if not all(re.fullmatch(rb"[0-9]{1,9}", values[key]) for key in (b"interval", b"maxmoves")) or not int(values[b"maxmoves"]):
+            raise Refused(b"syntax error")
         return cls(FORMS[name], colour, int(values[b"interval"]) / 100, int(values[b"maxmoves"]))
 
 

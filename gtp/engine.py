@@ -16,6 +16,8 @@ from programs import HEXD, Hexd, HexdEnded
 NOT_STARTED = 125
 # The C library, and a number of its linux/prctl.h.
 LIBRARY, PR_SET_PDEATHSIG = ctypes.CDLL(None), 1
+# So often it is looked whether anybody still reads the answers.
+LOOK_SECONDS = 1
 # What isn't hexd has so many seconds to end once its input has ended.
 GRACE = 5
 
@@ -144,9 +146,22 @@ def beside(words, given, held):
     Engine.running.add(process)
     limits.hold(process, *held)
     try:
-        return process.communicate(given)[0]
+        while True:
+            with contextlib.suppress(subprocess.TimeoutExpired):
+                return process.communicate(given, LOOK_SECONDS)[0]
+            given = None
+            if is_alone():
+                raise HexdEnded
     finally:
+        process.kill()
         Engine.running.discard(process)
+
+
+def is_alone():
+    """Whether nobody is left to read the answers."""
+    output = select.poll()
+    output.register(1, 0)
+    return bool(output.poll(0))
 
 
 def end_all(number, _):

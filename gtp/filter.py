@@ -61,6 +61,8 @@ class Filter:
         self.session = Session(words)
         # What was read and is not yet handed over.
         self.kept = b""
+        # Behind `quit` nothing is answered.
+        self.has_quit = False
 
     def give(self, text):
         """Writes all of a text."""
@@ -134,6 +136,7 @@ class Filter:
             return b""
         answer = self.session.hexd.answer()
         if request and answer[:1] == b"=":
+            self.has_quit = request.name == b"quit"
             self.session.changed(request.name)
         return answer
 
@@ -160,7 +163,7 @@ class Filter:
     def run(self):
         """Answers line after line, and gives the status in the end."""
         try:
-            while piece := self.piece():
+            while not self.has_quit and (piece := self.piece()):
                 self.give(self.answer(piece))
         except HexdEnded:
             pass

@@ -159,8 +159,9 @@ class Game(Mover):
         """Writes the record of the game to a file, in place of what was in it."""
         needs(bool(request.args))
         try:
+            record = self.hexd.ask(b"printsgf") + b"\n"
             with open(request.rest, "wb", opener=open_regular) as file:
-                file.write(self.hexd.ask(b"printsgf") + b"\n")
+                file.write(record)
         except OSError:
             raise Refused(b"cannot write file") from None
         return b""

@@ -29,6 +29,7 @@ from openings import ENDING, FOLDER, KINDS, MEASURED, can_unpack, opening_named,
 sys.path += [str(FOLDER.parent / "tools"), str(FOLDER.parent / "board")]
 import second_checker
 from hexd import PROGRAM, EngineEnded, check
+from limits import dying
 
 BUDGET = 10_000_000
 SIZES = range(1, 12)
@@ -62,6 +63,13 @@ def ended(process, is_needless):
     return usage, megabytes
 
 
+def hear():
+    """Has a new process hear the signals that wait in this one: a mask goes on to it."""
+    for number in ENDING_SIGNALS:
+        signal.signal(number, signal.SIG_DFL)
+    signal.pthread_sigmask(signal.SIG_UNBLOCK, ENDING_SIGNALS)
+
+
 def solved(opening, budget):
     """What `hexd solve` says of an opening, as `answered` has it."""
     return answered(f"(;GM[11]SZ[{opening.size}];B[{vertex(*opening)}])", budget)
@@ -75,11 +83,12 @@ def answered(record, budget, is_needless=lambda: False, words=()):
         given.seek(0)
         # Ctrl-C, and the signal TERM, wait while it starts: before that is over nobody could end it.
         signal.pthread_sigmask(signal.SIG_BLOCK, ENDING_SIGNALS)
-        process = subprocess.Popen([PROGRAM, "solve", "--budget", str(budget), *words], stdin=given, stdout=said)
+        command = dying(PROGRAM, ["solve", "--budget", str(budget), *words])
+        process = subprocess.Popen(command, stdin=given, stdout=said, preexec_fn=hear)
         try:
             signal.pthread_sigmask(signal.SIG_UNBLOCK, ENDING_SIGNALS)
             usage, megabytes = ended(process, is_needless)
-        except KeyboardInterrupt:
+        except BaseException:
             process.kill()
             raise
         said.seek(0)

@@ -13,8 +13,8 @@ import argparse
 import sys
 from pathlib import Path
 
-from find import named, solved
-from openings import POSITIONS, positions
+from find import INTERRUPTED, named, solved
+from openings import POSITIONS, positions, put_whole
 from programs import checked
 
 
@@ -43,18 +43,22 @@ def main():
     parser.add_argument("names", metavar="NAME", nargs="+")
     parser.add_argument("--out", type=Path, default=POSITIONS, metavar="FILE")
     options = parser.parse_args()
-    openings = named(options.names, True)
-    if not openings:
-        print("openings/positions.py: no opening is named", file=sys.stderr)
+    try:
+        openings = named(options.names, True)
+    except ValueError as why:
+        print(f"openings/positions.py: {why}", file=sys.stderr)
         return 1
     checked(b"")  # If it has to be built.
     known = positions(options.out)
     for opening in openings:
         known[opening] = least_budget(opening, known.get(opening, 1))
-        options.out.write_text("".join(f"{name}\t{count}\n" for name, count in sorted(known.items())))
+        put_whole(options.out, "".join(f"{name}\t{count}\n" for name, count in sorted(known.items())).encode())
         print(opening, known[opening], sep="\t", flush=True)
     return 0
 
 
 if __name__ == "__main__":
-    sys.exit(main())
+    try:
+        sys.exit(main())
+    except KeyboardInterrupt:
+        sys.exit(INTERRUPTED)

@@ -154,7 +154,7 @@ played_games() {
 # follow_match PROGRAM WORD..: plays the match of these words, or what is left of it, and writes and says games once they are
 # known. So what was written stands if it is ended.
 follow_match() {
-    local program=$1 games seed threads records opening at count text left part ended played=0
+    local program=$1 games seed threads records opening at count text left part ended output running played=0
     local -A wins=()
     shift
     games=$((10#$(value_of --games 10 "$@")))
@@ -170,9 +170,17 @@ follow_match() {
     # Sides change colours from game to game, so each part begins with one of even number, and with the opening of its pair.
     for ((at = played - played % 2; at < games; at += count)); do
         count=$((2 * threads < games - at ? 2 * threads : games - at))
-        text=$("$program" "${left[@]}" --games "$count" --seed "$(printf '%u' $((seed + at * GAME_STEP)))" \
+        exec {output}< <(exec "$program" "${left[@]}" --games "$count" --seed "$(printf '%u' $((seed + at * GAME_STEP)))" \
             ${opening:+--opening "$(turned "$opening" $((at / 2)))"})
+        running=$!
+        # A signal ends the match too: bash hears none while it waits for a command, but in `read`.
+        trap 'kill "$running"; exit 143' TERM
+        IFS= read -rd '' text <&"$output"
+        exec {output}<&-
+        wait "$running"
         ended=$?
+        trap - TERM
+        text=${text%$'\n'}
         [ "$ended" = 0 ] || exit "$ended"
         played_games "$at" "$text"
         give "$part" "$records"

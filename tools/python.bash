@@ -22,5 +22,8 @@ become_python() {
         HEXD=$("$bin/start" --where hexd </dev/null) || exit
     fi
     export HEXD=${HEXD:-$share/bin/hexd}
+    # Python begins nothing if its input is a folder, and finds no file beside the program's if this is set.
+    [ ! -d /dev/stdin ] || exec </dev/null
+    unset PYTHONSAFEPATH
     exec python3 "$share/$file" "$@"
 }

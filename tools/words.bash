@@ -67,6 +67,7 @@ with_config() {
         line=${line%%#*}
         [[ $line =~ ^[[:space:]]*(--)?([^[:space:]=]+)[[:space:]=]*(.*[^[:space:]])?[[:space:]]*$ ]] || continue
         option=--${BASH_REMATCH[2]}
+        [ "$option" != --config ] || fault="the file of --config names no further one"
         [[ $said == *" $option "* ]] || of_file+=("$option=${BASH_REMATCH[3]}")
     done <"$file"
     words=("${of_file[@]}" "${words[@]}")
