@@ -86,4 +86,10 @@ async function runOfPage(memory) {
   return workers.indexOf(run.worker);
 }
 
-Object.assign(window, {allRan, ofZeros, tried, closedWhileAsked, runOfPage});
+/** What the page gets of a run whose memory has so many pages: its text, or why there is none. */
+async function gotWithin(pages, words, input) {
+  const run = new Run(await WebAssembly.compile(narrowed(await packedIn('hexd'), pages)), words);
+  return run.all(input).catch(fault => fault.message);
+}
+
+Object.assign(window, {allRan, ofZeros, tried, closedWhileAsked, runOfPage, gotWithin});

@@ -52,6 +52,8 @@ MOST_BYTES = 200_000_000
 SMALL = 200
 # A page of memory has 65,536 bytes: so many are too few for a search.
 FEW_PAGES = 320
+# And so many for a solver of 9 by 9.
+FEW_FOR_SOLVER = 240
 # Tests of the board's page in the quick form; and those that are of its server.
 OF_BOARD = """test_size_3_by_clicks test_size_11_by_clicks_and_keys_against_hexd test_hexd_against_itself test_swap
 test_a_reload_keeps_what_hexd_said test_save_and_open test_the_table test_what_is_refused_says_why
@@ -146,6 +148,11 @@ class Module(InBrowser):
         asked = [(Case(("htp", *large)), [b"name\ngenmove b\nname\n"]), (Case(("bench", *large)), [])]
         for got in self.ran(asked, FEW_PAGES):
             self.assertEqual((5, "hexd: out of memory\n"), (got.get("status"), got["err"]), got)
+
+    def test_what_ran_out_of_memory_is_no_answer(self):
+        self.open()
+        got = self.in_page("gotWithin", FEW_FOR_SOLVER, ["solve", "--budget", "400"], "(;GM[11]SZ[9];B[a4];W[d4];B[f6])")
+        self.assertEqual("hexd ended with status 5 (hexd: out of memory): that is no answer.", got)
 
     def test_several_workers(self):
         """No thread can be made, so one makes the playouts of all."""

@@ -182,11 +182,18 @@ class Sittings(Pages):
         self.soon(2, lambda: len(self.moves()))
         self.assertEqual(1, browser.run("return searches"))
 
-    def test_a_double_click_lets_hexd_move_once(self):
+    def test_a_click_that_comes_as_hexd_has_moved(self):
+        """One on 'Stop' that came late, or the second of a double one, lets nobody move: 'hexd moves' stands in its place."""
         browser = self.start("5,c3")
-        ActionChains(browser.driver).double_click(browser.find("#go")).perform()
-        browser.ready()
+        browser.click("#go")
         self.soon(2, lambda: len(self.moves()))
+        browser.run("play.ended = performance.now() + 60_000")
+        browser.click("#go")
+        self.soon(2, lambda: len(self.moves()))
+        # A key has no place.
+        browser.run("byId('go').focus()")
+        browser.keys(Keys.ENTER)
+        self.soon(3, lambda: len(self.moves()))
 
     def test_a_slip_ends_no_search(self):
         browser = self.at_work()
