@@ -230,7 +230,8 @@ class Play {
   async save() {
     const {tree} = this.game, {players} = this;
     if (!this.lost) await this.game.learn(tree.line.at(-1)).catch(fault => { if (!(fault instanceof Refused)) throw fault; });
-    const strengths = {...Object.fromEntries([...'bw'].filter(colour => players[colour] === 'hexd').map(colour => [colour, strengthName()])), ...tree.hexd};
+    const now = [...'bw'].filter(colour => players[colour] === 'hexd').map(colour => [colour, strengthName()]);
+    const strengths = {...Object.fromEntries(now), ...tree.hexd};
     const nameOf = colour => (strengths[colour] ? `hexd (${strengths[colour]})` : HUMAN);
     const record = () => savedRecord(tree, {b: nameOf('b'), w: nameOf('w')});
     saveFile(savedName(), new Blob([`${byId('save-remarks').checked ? withRemarks(tree, record) : record()}\n`]));

@@ -122,7 +122,13 @@ class Browser:
             except StaleElementReferenceException:
                 continue
 
+    def counts(self, css):
+        """Waits until a click counts: one on 'hexd moves' right after a move is taken for a late one on 'Stop' (wiring.js)."""
+        if css == "#go":
+            until(lambda: self.run("return performance.now() > play.ended + LATE"), "a click counts")
+
     def click(self, css):
+        self.counts(css)
         element = self.find(css)
         with self.settings(css):
             self.run("arguments[0].scrollIntoView({block: 'nearest'})", element)
@@ -142,6 +148,7 @@ class Browser:
 
     def press(self, css):
         """A click after which the page may be at work for long."""
+        self.counts(css)
         self.find(css).click()
 
     def place(self, css):

@@ -302,8 +302,10 @@ class Lasting(Pages):
         self.soon("5,e5", self.link)
         browser.back()
         self.soon("3,b2", self.link)
-        browser.back()
-        self.soon("4,a2", self.link)
+        # The record that was opened before lay ahead, and comes too.
+        for link in ("3,b2", "4,a2"):
+            browser.back()
+            self.soon(link, self.link)
 
     def test_clicks_wait_their_turn(self):
         browser = self.start("6")

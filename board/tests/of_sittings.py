@@ -188,7 +188,8 @@ class Sittings(Pages):
         browser.click("#go")
         self.soon(2, lambda: len(self.moves()))
         browser.run("play.ended = performance.now() + 60_000")
-        browser.click("#go")
+        browser.find("#go").click()
+        browser.ready()
         self.soon(2, lambda: len(self.moves()))
         # A key has no place.
         browser.run("byId('go').focus()")
