@@ -2,6 +2,7 @@
 """bin/hexd-gtp over the built program: what it answers itself, sessions that have to be the same without it, and how it
 ends. It says nothing if all is as it has to be."""
 
+import contextlib
 import json
 import os
 import re
@@ -188,6 +189,9 @@ ROWS = [
     ("param_hexd seed 5", "= \n\n"),
     ("quit now", "? syntax error\n\n"),
     ("quit", "= \n\n"),
+    # Behind it no command is answered, whoever would.
+    ("komi 6.5", ""),
+    ("savesgf {folder}/kept.sgf", ""),
     ("name", ""),
 ]
 
@@ -244,8 +248,12 @@ def rows_fault():
         # As another program may write it: text before it, capitals, cells in two letters, a pass at the end.
         Path(folder, "other.sgf").write_text("\ufeffGame 1 (;SZ[3];B[B1];W[Swap];B[cc];W[])")
         os.mkfifo(Path(folder, "a pipe"))
+        kept = Path(folder, "kept.sgf")
+        kept.write_text("kept")
         given = "".join(command + "\n" for command, _ in ROWS).format(folder=folder)
         status, got, errors = run(WITH, SMALL, given.encode(errors="surrogateescape"))
+        if kept.read_text() != "kept":
+            return f"the rows: a file that is saved behind `quit` has {kept.read_text()!r}"
     want = "".join(answer for _, answer in ROWS)
     if (status, got.decode(), errors) != (0, want, b""):
         return f"the rows: status {status}, {errors}, and for what it wrote of them:\n{got.decode()}"
@@ -345,6 +353,8 @@ def files_faults():
             ("depth 3", "there is no option '--depth'"),
             ("size 3\nsize 4", "--size stands here twice"),
             ("swap", "--swap takes on or off, and '' is none of these"),
+            ("config other", "the file of --config names no further one"),
+            ("size 3\n--config=other", "the file of --config names no further one"),
         ):
             config.write_text(wrong)
             status, got, errors = run(WITH, ["--config", str(config)], b"name\n")
@@ -530,6 +540,14 @@ def is_running(process):
         return False
 
 
+def children_of(process):
+    """The processes that a process has begun."""
+    try:
+        return list(map(int, Path(f"/proc/{process.pid}/task/{process.pid}/children").read_text().split()))
+    except OSError:
+        return []
+
+
 def killed_fault():
     """Whether hexd ends at once when the filter is killed, which can do nothing then: one that is stopped meets no end of its
     input."""
@@ -544,6 +562,37 @@ def killed_fault():
         os.kill(hexd, signal.SIGKILL)
         return "hexd goes on when the filter is killed"
     return None
+
+
+def lonely_fault():
+    """Whether it ends with its solver, whatever time that has, once nobody is left to read what it finds."""
+    process, hexd = start(["--size", "9"], stderr=subprocess.DEVNULL)
+    process.stdin.write(b"solve-state\n")
+    process.stdin.flush()
+    while len(begun := children_of(process)) < 2 and process.poll() is None:
+        time.sleep(0.01)
+    process.stdout.close()
+    with contextlib.suppress(subprocess.TimeoutExpired):
+        process.wait(LIMIT / 4)
+    left = [one for one in (process.pid, *begun, *children_of(process)) if is_running(one)]
+    process.kill()
+    process.communicate()
+    return f"a solver that nobody hears: {left} of {process.pid} and {begun} go on" if left or len(begun) < 2 else None
+
+
+def unsaved_fault():
+    """Whether a file stays as it was if hexd can't say what it is to have. Both are seen at once: that hexd ended, and the line."""
+    with tempfile.TemporaryDirectory() as folder:
+        file = Path(folder, "kept.sgf")
+        file.write_text("kept")
+        process, hexd = start(SMALL)
+        process.send_signal(signal.SIGSTOP)
+        os.kill(hexd, signal.SIGKILL)
+        process.stdin.write(b"savesgf %s\n" % bytes(file))
+        process.stdin.flush()
+        process.send_signal(signal.SIGCONT)
+        process.communicate(timeout=LIMIT)
+        return None if file.read_text() == "kept" else f"a record that can't be saved: the file has {file.read_text()!r}"
 
 
 def signal_faults():
@@ -617,7 +666,7 @@ def unheard_faults():
 
 def main():
     single = [rows_fault(), time_fault(), solved_fault(), seed_fault(), trace_fault(), lists_fault(), search_fault(), look_fault(), areas_fault(), killed_fault()]
-    single += [json_fault(), line_fault(), limits_fault()]
+    single += [json_fault(), line_fault(), limits_fault(), lonely_fault(), unsaved_fault()]
     parts = [same_faults(), stream_faults(), unheard_faults(), ending_faults(), signal_faults(), start_faults()]
     parts += [parameter_faults(), files_faults()]
     parts += [test_moves.faults(WITH), test_analysis.faults(WITH), test_ponder.faults(WITH), test_match.faults()]

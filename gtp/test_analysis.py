@@ -1,6 +1,7 @@
 """Analysis that streams, over the built program: the forms of its lines, what ends it, and what it leaves alone. gtp/test.py
 runs these."""
 
+import contextlib
 import os
 import re
 import signal
@@ -40,8 +41,10 @@ class Driver:
         self.process.communicate(timeout=LIMIT)
 
     def send(self, line):
-        self.process.stdin.write(line + "\n")
-        self.process.stdin.flush()
+        # One that has ended has no answer, which tells it.
+        with contextlib.suppress(BrokenPipeError):
+            self.process.stdin.write(line + "\n")
+            self.process.stdin.flush()
 
     def line(self):
         return self.process.stdout.readline().removesuffix("\n")
@@ -116,6 +119,8 @@ FOUND = [
     (["--size=5", "--look=1", "--playouts=1"], [], "kata-analyze b 1 ownership true maxmoves 1", r"info move [a-e][1-5] visits .*"),
 ]
 WRONG = ["lz-analyze b w", "lz-analyze b 1 interval", "lz-analyze interval x", "kata-analyze avoid b a1 1", "hexd-analyze 1 2"]
+# Without a number of cells, and with times that no clock has.
+WRONG += ["lz-analyze maxmoves 0", "lz-analyze b 1 maxmoves 00", "lz-analyze b 999999999999", f"lz-analyze b {'9' * 400}"]
 
 
 def found_faults(program):

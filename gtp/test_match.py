@@ -158,9 +158,14 @@ def stop_faults(tries):
         yield f"a match that is stopped leaves {left}, {pids}"
     before = (other / "0.sgf").stat().st_mtime_ns
     (other / "1.sgf").unlink()
+    # As a match has left it that was ended while it was written.
+    (other / "match.json").write_text("")
     status, lines, _ = tries.play(tries.command("plain"), tries.command("plain"), at=tries.number)
     if (status, lines[:3]) != (0, ["0 a black 7 joined", "1 b black 7 joined", "a 1 b 1"]) or (other / "0.sgf").stat().st_mtime_ns != before:
         yield f"a match that goes on: {status}, {lines}"
+    left = sorted(path.name for path in other.iterdir())
+    if left != ["0.sgf", "1.sgf", "match.json"] or not (other / "match.json").read_text():
+        yield f"a match that goes on leaves {left}"
 
 
 def refused_faults(tries):
@@ -172,6 +177,7 @@ def refused_faults(tries):
         ((plain, tries.command("late")), {"at": tries.number}, f"{last} has another match; --folder names one for this"),
         (("/nowhere/x", plain), {}, "a, /nowhere/x: No such file or directory"),
         ((plain, "/bin/false"), {}, "b, /bin/false: it takes no command that begins a game"),
+        ((plain, "'unclosed"), {}, "No closing quotation"),
     ]
     for words, how, why in rows:
         status, _, errors = tries.play(*words, **how)

@@ -10,7 +10,7 @@ with a claim that is not the opening's, a file with a byte changed, and an openi
 leaves an opening open; after Ctrl-C there is no part of a file. The rows that it adds are those that README.md's
 tables are made of. positions.py comes to the same number from any other. middle.py counts what it decides.
 even.tsv has what even.py makes of openings.tsv, and openings that may be near even beyond.
-tests/of_jobs.py has the tests of openings/job and openings/gather.
+tests/of_jobs.py has the tests of openings/job and openings/gather, and tests/of_ends.py those of how all of these end.
 
 HEXD names the program; if it isn't set that is bin/hexd.
 """
@@ -28,9 +28,10 @@ from openings import ENDING, FOLDER, MEASURED, listed, opening_named, text_of
 
 sys.path[:0] = [str(FOLDER.parent / "tools"), str(FOLDER.parent / "examples")]
 import second_checker
+import tests.of_ends as of_ends
 import tests.of_jobs as of_jobs
 from programs import checked
-from tests.support import expect, faults, openings_check
+from tests.support import expect, faults, openings_check, run
 from winning_move import winning_move
 
 HEAD = 5
@@ -225,6 +226,9 @@ def expect_names():
         done = subprocess.run([FOLDER / "find.py", *words], capture_output=True, text=True)
         last = done.stderr.splitlines()[-1] if done.stderr else ""
         expect((done.returncode, done.stdout, why in last) == (status, "", True), f"find.py {words}: {done}")
+    said = run(FOLDER / "positions.py", "zz")
+    want = (1, [], ["openings/positions.py: 'zz' is no opening, as 6-a3, and no size, 1 to 11"])
+    expect(said == want, f"positions.py zz: {said}")
 
 
 def expect_positions(folder):
@@ -279,8 +283,9 @@ def main():
     expect_names()
     expect_even()
     of_jobs.expect_orders()
+    of_ends.expect_no_reader()
     trials = expect_other_names, expect_other_claim, expect_whole_files, expect_found, expect_positions, expect_interrupted
-    for trial in (*trials, *of_jobs.TRIALS):
+    for trial in (*trials, *of_jobs.TRIALS, *of_ends.TRIALS):
         with tempfile.TemporaryDirectory() as folder:
             trial(Path(folder))
     for fault in faults:

@@ -1,6 +1,7 @@
 """Tests openings/job and openings/gather: what they come to on one machine, by GNU parallel and by Slurm, and that
 nobody who writes into their folder is believed."""
 
+import contextlib
 import lzma
 import os
 import shutil
@@ -261,12 +262,14 @@ def expect_slurm(folder):
 def children(process):
     """The processes that a process has begun, with the words of each."""
     for number in Path(f"/proc/{process.pid}/task/{process.pid}/children").read_text().split():
-        yield int(number), Path(f"/proc/{number}/cmdline").read_bytes().split(b"\0")
+        # It may have ended.
+        with contextlib.suppress(OSError):
+            yield int(number), Path(f"/proc/{number}/cmdline").read_bytes().split(b"\0")
 
 
 def is_search(words):
-    """Whether these words are those of hexd itself, and no longer of its launcher."""
-    return b"solve" in words and not words[0].endswith(b"bash")
+    """Whether these words are those of hexd itself, and no longer of its launcher, or of what has it end with its parent."""
+    return b"solve" in words and not words[0].endswith((b"bash", b"setpriv"))
 
 
 def expect_ended_search(folder):
