@@ -10,8 +10,9 @@ import time
 
 # At most so many, and no more than this part of the files that the process may open.
 MOST, SHARE_OF_FILES = 128, 4
-# The most bytes of a request's head: Python takes a hundred lines of 64 KiB.
-MOST_HEAD_BYTES = 65_536
+# The most bytes of a request's head: Python takes a hundred lines of 64 KiB. And how many are read at once: the last ones of a
+# head come with fewer of its body.
+MOST_HEAD_BYTES, PIECE_BYTES = 65_536, 8_192
 
 
 def most():

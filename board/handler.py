@@ -82,7 +82,7 @@ class Handler(BaseHTTPRequestHandler):
     def setup(self):
         super().setup()
         self.line = connections.Line(self.connection)
-        self.rfile = io.BufferedReader(self.line)
+        self.rfile = io.BufferedReader(self.line, connections.PIECE_BYTES)
 
     def handle_one_request(self):
         self.close_connection = True
@@ -92,7 +92,7 @@ class Handler(BaseHTTPRequestHandler):
             self.rfile.peek(1)
         except TimeoutError:
             return
-        self.line.within(HEAD_SECONDS, connections.MOST_HEAD_BYTES)
+        self.line.within(HEAD_SECONDS, connections.MOST_HEAD_BYTES + connections.PIECE_BYTES)
         super().handle_one_request()
 
     def do_GET(self):

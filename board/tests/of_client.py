@@ -5,7 +5,7 @@ import threading
 import unittest
 from pathlib import Path
 
-from tests.support import is_running, until
+from tests.support import LIMIT_SECONDS, is_running, until
 
 import hexd
 
@@ -14,6 +14,16 @@ GAME = b"(;FF[4]GM[11]SZ[3];B[b2])"
 UNANSWERED = ["", " \t ", "# a comment", "  # a comment", "\0\r", "name\nversion", "name\n", "\nname", "play b a1 # \n"]
 # A search that takes long.
 LONG = ("--hsearch=off", "--playouts=1000000", "--size=11")
+
+# Another program, whose lines end with a carriage return, and of which one command has a name in Latin-1.
+OTHER = r"""
+while read -r line; do
+    case $line in
+        name) printf '= other\r\n\r\n';;
+        list_commands) printf '= name\r\ncaf\351\r\nquit\r\n\r\n';;
+        *) printf '=  a\r\n1 .\r\n\r\n';;
+    esac
+done"""
 
 
 class Lines(unittest.TestCase):
@@ -46,6 +56,14 @@ class Lines(unittest.TestCase):
             with self.assertRaises(ValueError):
                 engine.ask("play b \udcff")
             self.assertEqual("hexd", engine.ask("name").text)
+
+    def test_another_program_of_gtp(self):
+        """It may send carriage returns, and bytes that are no UTF-8."""
+        answers = {"name": "other", "list_commands": "name\ncaf\ufffd\nquit", "showboard": " a\n1 ."}
+        with hexd.Engine(["sh", "-c", OTHER]) as engine:
+            for line, want in answers.items():
+                with self.subTest(line=line):
+                    self.assertEqual(hexd.Answer(True, want, f"= {want}"), engine.ask(line, seconds=LIMIT_SECONDS))
 
 
 class Limits(unittest.TestCase):

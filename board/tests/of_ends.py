@@ -9,6 +9,7 @@ import subprocess
 import tempfile
 import threading
 import unittest
+import unittest.mock
 from pathlib import Path
 from urllib.parse import urlsplit
 
@@ -17,6 +18,9 @@ from tests.support import LIMIT_SECONDS, ROOT, Server, dying, first_line, is_run
 import hexd
 import sessions
 import settings
+
+# Of a search that takes long.
+LONG = {"playouts": 1_000_000, "weight": 0}
 
 
 class Ends(unittest.TestCase):
@@ -193,6 +197,34 @@ class Ends(unittest.TestCase):
             self.assertEqual(410, refused.exception.status)
             table.close()
             self.assertEqual([], os.listdir(folder))
+
+    def at_work(self, table):
+        """Three sessions that were not used for an hour: one has a solver at work, one a search, and one nothing more."""
+        solving, thinking, idle = [table.make(LONG) for _ in range(3)]
+        record = b"(;GM[11]SZ[9];B[a1])"
+        for work in (lambda: table.solve(solving, record, 10**9), lambda: table.ask(thinking, "genmove b")):
+            working = threading.Thread(target=lambda work=work: self.assertRaises(sessions.Refusal, work))
+            working.start()
+            self.addCleanup(working.join, LIMIT_SECONDS)
+        self.addCleanup(table.close)
+        until(lambda: table.open[solving].solvers and table.open[thinking].engine.turn.locked(), "both are at work")
+        table.ask(idle, "name")
+        for session in table.open.values():
+            session.used -= sessions.IDLE_SECONDS + 1
+        return {solving, thinking}, idle
+
+    def test_a_session_at_work(self):
+        """It isn't idle, nor the first that has to make room."""
+        with tempfile.TemporaryDirectory() as folder:
+            table = sessions.Sessions(hexd.PROGRAM, settings.Given(LONG, 1), [], folder)
+            working, idle = self.at_work(table)
+            with unittest.mock.patch.object(sessions, "MOST_SESSIONS", 3):
+                table.open[idle].used += sessions.IDLE_SECONDS
+                self.assertEqual("ended", table.make_room())
+            self.assertEqual(working, {*table.open})
+            table.end_idle()
+            self.assertEqual(working, {*table.open})
+            self.doCleanups()
 
 
 BEST = " ".join(settings.words_of({**settings.strength_options("normal", 11), "workers": settings.BEST["workers"]}))

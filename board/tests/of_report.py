@@ -4,6 +4,7 @@ import json
 import lzma
 import os
 import re
+import signal
 import subprocess
 import sys
 import tempfile
@@ -11,7 +12,7 @@ import unittest
 from pathlib import Path
 
 from tests.certificates import FULL, SEMI
-from tests.support import LIMIT_SECONDS, ROOT, SMALL, dying, unheard
+from tests.support import LIMIT_SECONDS, ROOT, SMALL, children, dying, first_line, is_running, unheard, until
 
 import hexd
 
@@ -196,6 +197,30 @@ class Reports(unittest.TestCase):
             self.assertEqual((2, "", 1), (run.returncode, run.stdout, len(run.stderr.splitlines())))
             self.assertIn(named, run.stderr)
 
+    def test_a_program_of_the_path(self):
+        (self.folder / "hexd").symlink_to(hexd.PROGRAM)
+        environment = {**os.environ, "HEXD": "hexd", "PATH": f"{self.folder}:{os.environ['PATH']}"}
+        command = [sys.executable, ROOT / "board/report.py", "--playouts", "9", "-"]
+        run = subprocess.run(command, input=b"(;SZ[1])", capture_output=True, timeout=LIMIT_SECONDS, cwd="/", env=environment)
+        self.assertEqual((0, b"0 of 0\n"), (run.returncode, run.stderr))
+
+    def test_signals(self):
+        """With each its hexd ends and its folder goes, and nothing is said of it."""
+        file = self.folder / "game.sgf"
+        file.write_text("(;GM[11]SZ[11])")
+        command = dying(ROOT / "bin/hexd-report", "--playouts", "1000000", "--workers", "1", file)
+        for number, status in ((signal.SIGTERM, 143), (signal.SIGHUP, 129), (signal.SIGINT, 130)):
+            with self.subTest(signal=number), tempfile.TemporaryDirectory() as folder:
+                pipe, environment = subprocess.PIPE, {**os.environ, "TMPDIR": folder}
+                process = subprocess.Popen(command, stdin=subprocess.DEVNULL, stdout=pipe, stderr=pipe, text=True, env=environment)
+                self.assertEqual("0 of 0\n", first_line(process.stderr))
+                (engine,) = until(lambda: children(process.pid), "hexd is at work")
+                self.assertEqual(["hexd-report-"], [name[:12] for name in os.listdir(folder)])
+                process.send_signal(number)
+                self.assertEqual(("", ""), process.communicate(timeout=LIMIT_SECONDS))
+                self.assertEqual((status, []), (process.returncode, os.listdir(folder)))
+                until(lambda: not is_running(engine), "hexd has ended")
+
 
 def in_browser(shots):
     """The tests of reports that need a browser. Made here, so that the others run without one."""
@@ -366,5 +391,6 @@ def in_browser(shots):
         test_a_report_stands_alone = test_what_is_refused = test_standard_input = test_what_it_searches_with = None
         test_a_certificate = test_names_that_are_no_text = test_json = None
         test_json_of_a_game_that_is_over_and_of_a_certificate = None
+        test_signals = test_a_program_of_the_path = None
 
     return Opened

@@ -16,6 +16,7 @@ import socket
 import tempfile
 import threading
 import time
+import types
 import unittest
 import unittest.mock
 from pathlib import Path
@@ -107,6 +108,16 @@ class Requests(unittest.TestCase):
         self.refused(413, self.server.post(f"session/{name}/record", b"x" * (MOST + 1)))
         self.assertEqual((200, "? line too long"), self.server.post(f"session/{name}/htp", b"x" * MOST))
         self.assertEqual("= hexd", self.server.ask(name, "name"))
+
+    def test_a_body_that_comes_with_its_head(self):
+        """Its bytes don't count as those of the head."""
+        name, own, record = self.session(), f"127.0.0.1:{self.server.port}", RECORD.encode().ljust(1_000_000)
+        rest = f" HTTP/1.1\r\nHost: {own}\r\nContent-Length: {len(record)}\r\n"
+        first, second = (f"POST /{self.server.token}/{path}{rest}" for path in ("none", f"session/{name}/record"))
+        # Two over one connection.
+        got = self.raw(f"{first}\r\n".encode(), record, f"{second}Connection: close\r\n\r\n".encode(), record)
+        self.assertEqual([404, 200], got)
+        self.assertEqual(f"= {RECORD}", self.server.ask(name, "printsgf"))
 
     def test_a_body_without_length(self):
         connection = http.client.HTTPConnection("127.0.0.1", self.server.port, timeout=LIMIT_SECONDS)
@@ -456,6 +467,58 @@ class Slow(unittest.TestCase):
         except ConnectionError:
             return True
 
+    def long_head(self, server, size, line=""):
+        """A head of so many bytes, which has each line that it needs, without the empty one at its end."""
+        head = f"POST /{server.token}/none HTTP/1.1\r\nHost: 127.0.0.1:{server.server_port}\r\n{line}".encode()
+        filling = b"x: " + 30_000 * b"x" + b"\r\n"
+        while size - len(head) > 2 * len(filling):
+            head += filling
+        return (head + b"x: ").ljust(size - 2, b"x") + b"\r\n"
+
+    def answered(self, place, text):
+        """The first line of the answer to some bytes; none if the server closes the connection without one."""
+        with contextlib.suppress(ConnectionError), socket.create_connection(place, LIMIT_SECONDS) as connection:
+            connection.sendall(text)
+            return connection.makefile("rb").readline()
+        return b""
+
+    def in_pieces(self, sizes):
+        """Has the first reads of what a client sends give so many bytes at most."""
+        pieces, whole = iter(sizes), connections.Line.readinto
+
+        def read(line, room):
+            return whole(line, room[: next(pieces, None)])
+
+        return unittest.mock.patch.object(connections.Line, "readinto", read)
+
+    def test_a_head_has_a_length(self):
+        """One within it is taken, and a body behind it, in whatever pieces both come."""
+        server = handler.Server("127.0.0.1", 0, None, None)
+        place, most = self.served(server), connections.MOST_HEAD_BYTES
+        body, line = 1_000_000 * b"x", "Connection: close\r\nContent-Length: 1000000\r\n"
+        for sizes in ((), (1,), (1, 100), (1, 8_191, 7)):
+            with self.subTest(sizes=sizes), self.in_pieces(sizes):
+                head = self.long_head(server, most - 2, line) + b"\r\n"
+                self.assertEqual(b"HTTP/1.1 404 Not Found\r\n", self.answered(place, head + body))
+        self.assertEqual(b"", self.answered(place, self.long_head(server, most + 30_000, line) + b"\r\n" + body))
+
+    def test_long_heads_fill_nothing(self):
+        """Each is cut off long before its time is over."""
+        server = handler.Server("127.0.0.1", 0, None, None)
+        with unittest.mock.patch.object(handler, "HEAD_SECONDS", 10 * LIMIT_SECONDS):
+            place, head = self.served(server), self.long_head(server, connections.MOST_HEAD_BYTES + 30_000)
+            clients = [socket.create_connection(place, LIMIT_SECONDS) for _ in range(connections.most() // 2)]
+            for client in clients:
+                self.addCleanup(client.close)
+                with contextlib.suppress(ConnectionError):
+                    client.sendall(head)
+                client.settimeout(0.2)
+            for client in clients:
+                until(lambda: self.is_closed(client), "the connection is closed")  # noqa: B023
+            until(lambda: not server.connections.waiting, "none is counted")
+            short = self.long_head(server, 1_000) + b"\r\n"
+            self.assertEqual(b"HTTP/1.1 404 Not Found\r\n", self.answered(place, short))
+
     def test_which_one_gives_way(self):
         pairs = [socket.socketpair() for _ in range(4)]
         for pair in pairs:
@@ -472,6 +535,36 @@ class Slow(unittest.TestCase):
         self.assertFalse(table.begin(ours[3]))
         table.end(ours[0])
         self.assertTrue(table.begin(ours[3]))
+
+
+class Names(unittest.TestCase):
+    """The names by which a request may call the server."""
+
+    def hosts(self, name, port, reached="192.0.2.1"):
+        server = types.SimpleNamespace(server_name=name, server_port=port, is_local=lambda: name == "127.0.0.1")
+        with unittest.mock.patch.object(socket, "gethostname", lambda: "Big-Machine"):
+            return handler.Server.hosts(server, reached)
+
+    def test_the_port_of_http_may_be_left_out(self):
+        self.assertEqual(["127.0.0.1:80", "localhost:80", "127.0.0.1", "localhost"], self.hosts("127.0.0.1", 80))
+        self.assertEqual(["127.0.0.1:8080", "localhost:8080"], self.hosts("127.0.0.1", 8080))
+        self.assertEqual(["[2001:db8::1]:80", "[2001:db8::1]"], self.hosts("2001:db8::1", 80))
+        names = ["192.0.2.1", "localhost", "big-machine"]
+        self.assertEqual([f"{name}:80" for name in names] + names, self.hosts("0.0.0.0", 80))
+
+    def test_a_name_in_capitals(self):
+        """A browser sends it in small letters."""
+        self.assertEqual("big-machine:8080", self.hosts("::", 8080)[-1])
+        server = handler.Server("0.0.0.0", 0, None, None)
+        threading.Thread(target=server.serve_forever, daemon=True).start()
+        self.addCleanup(server.server_close)
+        self.addCleanup(server.shutdown)
+        with unittest.mock.patch.object(socket, "gethostname", lambda: "Big-Machine"):
+            connection = http.client.HTTPConnection("127.0.0.1", server.server_port, timeout=LIMIT_SECONDS)
+            self.addCleanup(connection.close)
+            self.assertTrue(server.address().startswith(f"http://big-machine:{server.server_port}/"), server.address())
+            connection.request("GET", f"/{server.token}/", headers={"Host": f"big-machine:{server.server_port}"})
+            self.assertEqual(200, connection.getresponse().status)
 
 
 class Troubles(unittest.TestCase):

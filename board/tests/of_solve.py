@@ -5,6 +5,7 @@ import os
 import re
 import signal
 import subprocess
+import sys
 import tempfile
 import unittest
 from pathlib import Path
@@ -115,9 +116,9 @@ class Solving(unittest.TestCase):
                 limits.Held(hexd.PROGRAM, words, memory, seconds).answer(given)
             self.assertEqual(said, str(ended.exception))
 
-    def started(self, *words):
+    def started(self, *words, before=()):
         pipe = subprocess.PIPE
-        process = subprocess.Popen(dying(SOLVE, *words), stdin=pipe, stdout=pipe, stderr=pipe, text=True)
+        process = subprocess.Popen(dying(*before, SOLVE, *words), stdin=pipe, stdout=pipe, stderr=pipe, text=True)
         process.stdin.write(EMPTY)
         process.stdin.close()
         process.stdin = None
@@ -131,6 +132,48 @@ class Solving(unittest.TestCase):
         known = re.findall("^hexd-solve: (unknown [0-9]+), with", "".join(lines) + errors, re.M)
         self.assertEqual((130, known[-1] + "\n"), (process.returncode, said))
         self.assertTrue(errors.endswith("hexd-solve: stopped; what is known stands\n"), errors)
+
+    def test_nohup(self):
+        """A terminal that is closed doesn't end it then."""
+        with tempfile.TemporaryDirectory() as folder:
+            program = Path(folder) / "hexd"
+            waits = 'until [ -e "$0.ends" ]; do sleep 0.1; done'
+            program.write_text(f'#!/bin/sh\ncat >/dev/null\n>"$0.works"\n{waits}\necho won black\n')
+            program.chmod(0o755)
+            process = self.started("--program", program, before=["nohup"])
+            until(Path(f"{program}.works").exists, "hexd is at work")
+            process.send_signal(signal.SIGHUP)
+            Path(f"{program}.ends").touch()
+            said, errors = process.communicate(timeout=LIMIT_SECONDS)
+            self.assertEqual((0, "won black\n"), (process.returncode, said), errors)
+
+    def test_how_a_program_is_named(self):
+        """As in a shell: in its own folder with a dot, and by the path."""
+        with tempfile.TemporaryDirectory() as folder:
+            Path(folder, "hexd").symlink_to(hexd.PROGRAM)
+            own = {**os.environ, "PATH": f"{folder}:{os.environ['PATH']}"}
+            for name, words, place, environment in (
+                ("./hexd", [], folder, os.environ),
+                ("hexd", [], "/", own),
+                ("/nowhere", ["--program", "./hexd"], folder, os.environ),
+                ("/nowhere", ["--program=hexd"], "/", own),
+            ):
+                with self.subTest(name=name, words=words):
+                    command = [sys.executable, ROOT / "board/solve.py", *words]
+                    run = subprocess.run(command, input=b"(;SZ[2])", capture_output=True, timeout=LIMIT_SECONDS,
+                                         cwd=place, env={**environment, "HEXD": name})
+                    self.assertEqual((0, b"won black"), (run.returncode, run.stdout.partition(b"\n")[0]), run.stderr)
+
+    def test_how_python_begins(self):
+        """It finds the files beside its own, whatever the environment says, and a folder is an input that is empty."""
+        run = subprocess.run([SOLVE], input=b"(;SZ[1];B[a1])", capture_output=True, timeout=LIMIT_SECONDS,
+                             env={**os.environ, "PYTHONSAFEPATH": "1"})
+        self.assertEqual((0, b"over black\n"), (run.returncode, run.stdout), run.stderr)
+        folder = os.open("/", os.O_RDONLY)
+        self.addCleanup(os.close, folder)
+        run = subprocess.run([SOLVE], stdin=folder, capture_output=True, timeout=LIMIT_SECONDS)
+        said = b"hexd-solve: -: it is no record of a game\n"
+        self.assertEqual((1, b"", said), (run.returncode, run.stdout, run.stderr))
 
     def test_it_ends_with_hexd(self):
         with tempfile.TemporaryDirectory() as folder:
